@@ -1,0 +1,9 @@
+-- The tests behind the table, and what it shows.
+pub mod Tests
+pub mod PointTests
+pub mod RowTests
+pub mod StateTests
+pub mod DecoratedTests
+pub mod TableLaws
+pub mod Examples
+pub mod WrongVersions

@@ -1,0 +1,40 @@
+-- Every case of the table is right.
+use mathlib.Core.Bool.{Bool, true}
+use mathlib.Core.List.{List, [], _∷_}
+use lib.Dec.{T}
+use Rattle.patterns.specs.Format.{binary64, infinity, signBit}
+use Rattle.patterns.specs.Value.{value, magnitude, plus, minus, opposite}
+use Rattle.meaning.specs.Fraction.{_⊕_, _⊗_}
+use Rattle.meaning.specs.Pairs.{both, minusInfinity, endOf, setOf}
+use Rattle.exact_ends.specs.Ends.{reciprocal, greater}
+use Rattle.cases.specs.Rows.{Row, bare, decorated, stepped, state, Right, All, none, more}
+use Rattle.cases.specs.Table.{table}
+use Rattle.cases.proofs.Tests.{split}
+use Rattle.cases.proofs.RowTests.{arithmeticTest, arithmetic-tested, stepTest, step-tested}
+use Rattle.cases.proofs.StateTests.{stateTest, state-tested}
+use Rattle.cases.proofs.DecoratedTests.{decoratedTest, decorated-tested}
+
+abbrev passes : Row → Bool
+passes (bare op x y z) = arithmeticTest binary64 op x y z
+passes (decorated op x y z) = decoratedTest binary64 op x y z
+passes (stepped op x z) = stepTest binary64 op x z
+passes (state x y s n) = stateTest binary64 x y s n
+
+passed : (row : Row) → T (passes row) → Right row
+passed (bare op x y z) t = arithmetic-tested binary64 op x y z t
+passed (decorated op x y z) t = decorated-tested binary64 op x y z t
+passed (stepped op x z) t = step-tested binary64 op x z t
+passed (state x y s n) t = state-tested binary64 x y s n t
+
+abbrev allPass : List Row → Bool
+allPass [] = true
+allPass (row ∷ rows) = both (passes row) (allPass rows)
+
+all-passed : (rows : List Row) → T (allPass rows) → All Right rows
+all-passed [] t = none
+all-passed (row ∷ rows) t = let s = split (passes row) (allPass rows) t in more (passed row (s .0)) (all-passed rows (s .1))
+
+-- The table's statement.
+pub table-right : All Right table
+unfolding infinity signBit value magnitude plus minus opposite _⊕_ _⊗_ minusInfinity endOf setOf reciprocal greater
+table-right = all-passed table tt

@@ -1,0 +1,3 @@
+-- Cases that are proved of the definitions.
+pub mod Rows
+pub mod Table

@@ -1,0 +1,1 @@
+// Document 01's proved cases as one table, and the wrong versions that the statements refuse. There is no code here.

@@ -1,0 +1,4 @@
+-- True upper ends of the arithmetic operations, worked out by classes.
+pub mod Ends
+pub mod Tables
+pub mod Answer

@@ -1,0 +1,8 @@
+-- The laws of the definitions.
+pub mod FractionLaws
+pub mod SetLaws
+pub mod QuotientLaws
+pub mod PairLaws
+pub mod HullLaws
+pub mod PatternHull
+pub mod Unique

@@ -1,0 +1,65 @@
+-- `products::mul_ru` meets its contract: nothing rounds to 0, and any other product by its sign.
+use borrow.Author.Needs.{needs}
+use mathlib.Core.Bool.{Bool}
+use mathlib.Core.Path.{subst}
+use Prim.Native.Nat.{ℕ, _*_, _^_}
+use native.Mathlib.Nat.{pos-of-ne-zero}
+use lib.Pow.{pow-pos}
+use Rattle.patterns.specs.Format.{binary64, signBit}
+use Rattle.patterns.specs.Value.{value, magnitude}
+use Rattle.patterns.specs.Rounding.{Up}
+use Rattle.significands.specs.Signed.{signed}
+use Rattle.significands.proofs.Signs.{product-up, product-first-zero, product-second-zero}
+use Rattle.products.proofs.mul_ru.Statement.{statement}
+use Rattle.products.proofs.mul_ru.Tie as tie
+
+returns : tie.Need-returns
+unfolding magnitude signBit
+returns c = product-first-zero binary64 (c .before .args .a) (c .before .args .b) (c .if1 .taken)
+
+returns-2 : tie.Need-returns-2
+unfolding magnitude signBit
+returns-2 c = product-second-zero binary64 (c .before .before .args .a) (c .before .before .args .b) (c .if2 .taken)
+
+differ-requires : tie.Need-differ-requires
+differ-requires c κs = search needs
+
+normalise-requires : tie.Need-normalise-requires
+unfolding magnitude signBit
+normalise-requires c κs = (pos-of-ne-zero (c .before .before .if1 .left), c .before .before .before .pre .0 .finite)
+
+normalise-requires-2 : tie.Need-normalise-requires-2
+unfolding magnitude signBit
+normalise-requires-2 c κs = (pos-of-ne-zero (c .before .before .if2 .left), c .before .before .before .before .pre .1 .finite)
+
+product-requires : tie.Need-product-requires
+product-requires c κs = search needs
+
+round-up-requires : tie.Need-round-up-requires
+round-up-requires c κs = search needs
+
+returns-3 : tie.Need-returns-3
+unfolding magnitude signBit
+returns-3 c =
+    let start = c .before .before .before .before .before .before .before in
+    let a = start .args .a in
+    let b = start .args .b in
+    let x : ℕ = value 52 (magnitude binary64 a) in
+    let y : ℕ = value 52 (magnitude binary64 b) in
+    product-up binary64 a b
+    (subst (λ (s : Bool). Up binary64 (signed s (x * y) (2 ^ 1074)) (c .round-up .result)) (c .before .before .before .before .differ .ensures)
+    (c .round-up .ensures (x * y) (2 ^ 1074) (pow-pos 1074)
+    (c .before .product .ensures .1 x y (c .before .before .before .normalise .ensures .1) (c .before .before .normalise2 .ensures .1))))
+
+pub mul-ru-spec : {M : Type 1} → statement M
+mul-ru-spec =
+    tie.close
+    (tie.spec
+    returns
+    returns-2
+    differ-requires
+    normalise-requires
+    normalise-requires-2
+    product-requires
+    round-up-requires
+    returns-3)

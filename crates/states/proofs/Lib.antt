@@ -1,0 +1,15 @@
+-- One state of overlap, one decoration, one verdict on an operand, one outcome of a statement; and what fractions are.
+pub mod StateLaws
+pub mod ExtendedOrder
+pub mod KeyLaws
+pub mod DecorationOrder
+pub mod DecorationLaws
+pub mod PairLaws
+pub mod VerdictLaws
+pub mod ReadingLaws
+pub mod Decisions
+pub mod Verdicts
+pub mod OverlapLaws
+pub mod DecoratedLaws
+pub mod Differences
+pub mod Faithful

@@ -1,0 +1,17 @@
+-- `sums::combine::ordered_sum` meets its contract by the law of aligned sums.
+use borrow.Author.Needs.{needs}
+use Rattle.sums.proofs.CombineLaws.{sum-packable, sum-brackets}
+use Rattle.sums.proofs.combine.ordered_sum.Statement.{statement}
+use Rattle.sums.proofs.combine.ordered_sum.Tie as tie
+
+aligned-requires : tie.Need-aligned-requires
+aligned-requires c κs = search needs
+
+add-t4 : tie.Need-add-t4
+add-t4 c = search needs
+
+returns : tie.Need-returns
+returns c = let a = c .before .aligned .ensures in (sum-packable a, sum-brackets a)
+
+pub ordered-sum-spec : {M : Type 1} → statement M
+ordered-sum-spec = tie.close (tie.spec aligned-requires add-t4 returns)

@@ -1,0 +1,2 @@
+-- What the alignment of two magnitudes promises.
+pub mod Alignment
