@@ -11,3 +11,4 @@ pub mod Decorations
 pub mod Statement
 pub mod Overlap
 pub mod Bytes
+pub mod Requests

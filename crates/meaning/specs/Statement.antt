@@ -82,17 +82,19 @@ Bare₁ F op x o = Answered₁ (JudgedBare F) (λ x z. HullOf F (Result₁ op (s
 abbrev pub Bare₂ : Format → Operation → Pair → Pair → Outcome Pair → Type 0
 Bare₂ F op x y o = Answered₂ (JudgedBare F) (λ x y z. HullOf F (Result₂ op (setOf F x) (setOf F y)) z) x y o
 
+-- The right decorated answer of each operation of one and of two operands.
+abbrev pub RightDec₁ : Format → Unary → DecPair → DecPair → Type 0
+RightDec₁ F op x z =
+    RightDecorated F (NaNs F (x .pair)) (Result₁ op (setOf F (x .pair))) (Allows₁ op (setOf F (x .pair))) (x .decoration) z
+
+abbrev pub RightDec₂ : Format → Operation → DecPair → DecPair → DecPair → Type 0
+RightDec₂ F op x y z =
+    RightDecorated F (NaNs F (x .pair) ⊎ NaNs F (y .pair)) (Result₂ op (setOf F (x .pair)) (setOf F (y .pair)))
+    (λ Z. Allows₂ op (setOf F (x .pair)) (setOf F (y .pair))) (lowerOf (x .decoration) (y .decoration)) z
+
 -- The statement of each decorated operation of one and of two operands.
 abbrev pub Decorated₁ : Format → Unary → DecPair → Outcome DecPair → Type 0
-Decorated₁ F op x o =
-    Answered₁ (JudgedDecorated F)
-    (λ x z. RightDecorated F (NaNs F (x .pair)) (Result₁ op (setOf F (x .pair))) (Allows₁ op (setOf F (x .pair))) (x .decoration) z)
-    x o
+Decorated₁ F op x o = Answered₁ (JudgedDecorated F) (RightDec₁ F op) x o
 
 abbrev pub Decorated₂ : Format → Operation → DecPair → DecPair → Outcome DecPair → Type 0
-Decorated₂ F op x y o =
-    Answered₂ (JudgedDecorated F)
-    (λ x y z.
-    RightDecorated F (NaNs F (x .pair) ⊎ NaNs F (y .pair)) (Result₂ op (setOf F (x .pair)) (setOf F (y .pair)))
-    (λ Z. Allows₂ op (setOf F (x .pair)) (setOf F (y .pair))) (lowerOf (x .decoration) (y .decoration)) z)
-    x y o
+Decorated₂ F op x y o = Answered₂ (JudgedDecorated F) (RightDec₂ F op) x y o

@@ -1,16 +1,16 @@
-// Brackets of the sum and of the difference of two magnitudes.
+// Brackets of the sum and of the difference of two magnitudes, the first not the smaller.
 ghost use Prim.Native.Nat.{_+_, _-_, _<_, _≤_};
 ghost use Rattle.packing.specs.Bracket.{Brackets};
 ghost use Rattle.packing.specs.Packing.{Packable};
 ghost use Rattle.patterns.specs.Format.{binary64, infinity};
-ghost use Rattle.patterns.specs.Value.{value};
+ghost use Rattle.patterns.specs.Value.{value, choose};
 use crate::align::aligned;
 use packing::Approx;
 use packing::normalised;
 use significands::double::FRACTION;
 
-// The sum of two magnitudes, the first not the smaller.
-fn ordered_sum(x: u64, y: u64) -> Approx
+// The sum of two magnitudes.
+fn sum(x: u64, y: u64) -> Approx
     requires { ⌜ (y ≤ x) × (x < infinity binary64) ⌝ }
     ensures packs { λ r. ⌜ Packable 52 2047 (r .significand) (r .exponent) ⌝ }
     ensures brackets { λ r. ⌜ Brackets (value 52 x + value 52 y) 1 (r .significand) (r .exponent) (r .exact) ⌝ }
@@ -23,20 +23,8 @@ fn ordered_sum(x: u64, y: u64) -> Approx
     }
 }
 
-// The sum of two magnitudes.
-pub fn sum(x: u64, y: u64) -> Approx
-    requires { ⌜ (x < infinity binary64) × (y < infinity binary64) ⌝ }
-    ensures packs { λ r. ⌜ Packable 52 2047 (r .significand) (r .exponent) ⌝ }
-    ensures brackets { λ r. ⌜ Brackets (value 52 x + value 52 y) 1 (r .significand) (r .exponent) (r .exact) ⌝ }
-{
-    if x < y {
-        return ordered_sum(y, x);
-    }
-    ordered_sum(x, y)
-}
-
 // The first magnitude less the second. Where digits were cut off the second, one unit less is left.
-pub fn difference(x: u64, y: u64) -> Approx
+fn difference(x: u64, y: u64) -> Approx
     requires { ⌜ (y ≤ x) × (x < infinity binary64) ⌝ }
     ensures packs { λ r. ⌜ Packable 52 2047 (r .significand) (r .exponent) ⌝ }
     ensures brackets { λ r. ⌜ Brackets (value 52 x - value 52 y) 1 (r .significand) (r .exponent) (r .exact) ⌝ }
@@ -57,4 +45,16 @@ pub fn difference(x: u64, y: u64) -> Approx
         exponent: a.exponent,
         exact: false,
     }
+}
+
+// The difference of two magnitudes where their signs are unlike, and otherwise their sum.
+pub fn combined(unlike: bool, x: u64, y: u64) -> Approx
+    requires { ⌜ (y ≤ x) × (x < infinity binary64) ⌝ }
+    ensures packs { λ r. ⌜ Packable 52 2047 (r .significand) (r .exponent) ⌝ }
+    ensures brackets { λ r. ⌜ Brackets (choose unlike (value 52 x - value 52 y) (value 52 x + value 52 y)) 1 (r .significand) (r .exponent) (r .exact) ⌝ }
+{
+    if unlike {
+        return difference(x, y);
+    }
+    sum(x, y)
 }

@@ -1,0 +1,59 @@
+-- `bare::abs_of` meets its contract: each class says which sign the members have.
+use mathlib.Core.Path.{subst⁻¹}
+use Rattle.patterns.specs.Format.{binary64}
+use Rattle.meaning.specs.Pairs.{Bare}
+use Rattle.meaning.specs.Statement.{HullOf}
+use Rattle.operands.proofs.MirrorLaws.{mirror-bare}
+use Rattle.absmax.proofs.Absolute.{kept-hull, turned-hull, straddling-hull}
+use Rattle.absmax.proofs.Classes.{kept-positive, turned-negative}
+use Rattle.absmax.proofs.bare.abs_of.Statement.{statement}
+use Rattle.absmax.proofs.bare.abs_of.Tie as tie
+
+classify-requires : tie.Need-classify-requires
+classify-requires c κs = c .pre
+
+tidy-requires : tie.Need-tidy-requires
+tidy-requires c κs = c .before .before .pre
+
+enum-told : tie.Need-enum-told
+enum-told c = c .match .keys2
+
+opposite-requires : tie.Need-opposite-requires
+opposite-requires c κs = tt
+
+greater-requires : tie.Need-greater-requires
+greater-requires c κs = tt
+
+outward-requires : tie.Need-outward-requires
+outward-requires c κs = tt
+
+mirrored-requires : tie.Need-mirrored-requires
+mirrored-requires c κs = tt
+
+tidy-requires-2 : tie.Need-tidy-requires-2
+tidy-requires-2 c κs = subst⁻¹ (Bare binary64) (c .mirrored .ensures) (mirror-bare binary64 _ (c .before .before .before .pre))
+
+returns : tie.Need-returns
+returns c =
+    let found = c .before .before in
+    kept-hull binary64 _ _ (c .tidy .ensures) (kept-positive (found .classify .result) (c .before .match .keys1) (found .classify .ensures))
+
+returns-2 : tie.Need-returns-2
+returns-2 c =
+    let told = c .before .before .before in
+    let found = told .before .before in
+    subst⁻¹ (HullOf binary64 _) (c .outward .ensures)
+    (straddling-hull binary64 _ (found .before .pre) (rw (told .enum-told .given .1) at (found .classify .ensures))
+    (rw (c .before .before .opposite .ensures) at (c .before .greater .ensures)))
+
+returns-3 : tie.Need-returns-3
+returns-3 c =
+    let found = c .before .before .before in
+    turned-hull binary64 _ _ (found .before .pre) (rw (c .before .mirrored .ensures) at (c .tidy2 .ensures))
+    (turned-negative (found .classify .result) (c .before .before .match .keys3) (found .classify .ensures))
+
+pub abs-of-spec : {M : Type 1} → statement M
+abs-of-spec =
+    tie.close
+    (tie.spec classify-requires tidy-requires enum-told opposite-requires greater-requires outward-requires mirrored-requires tidy-requires-2
+    returns returns-2 returns-3)

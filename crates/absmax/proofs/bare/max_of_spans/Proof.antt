@@ -1,0 +1,28 @@
+-- `bare::max_of_spans` meets its contract: the chosen ends are the true bounds.
+use mathlib.Core.Logic.{inl}
+use Rattle.patterns.specs.Format.{binary64}
+use Rattle.set_op.proofs.TrueEnds.{span-of, exact-proper, exact-answer}
+use Rattle.absmax.proofs.Extremes.{max-exact}
+use Rattle.absmax.proofs.bare.max_of_spans.Statement.{statement}
+use Rattle.absmax.proofs.bare.max_of_spans.Tie as tie
+
+greater-requires : tie.Need-greater-requires
+greater-requires c κs = tt
+
+greater-requires-2 : tie.Need-greater-requires-2
+greater-requires-2 c κs = tt
+
+tidy-requires : tie.Need-tidy-requires
+tidy-requires c κs =
+    let (x, y) = c .before .before .pre in
+    inl (exact-proper binary64 _ (max-exact binary64 (span-of binary64 _ x) (span-of binary64 _ y) (c .before .greater .ensures) (c .greater2 .ensures)))
+
+returns : tie.Need-returns
+returns c =
+    let (x, y) = c .before .before .before .pre in
+    exact-answer binary64
+    (max-exact binary64 (span-of binary64 _ x) (span-of binary64 _ y) (c .before .before .greater .ensures) (c .before .greater2 .ensures))
+    (c .tidy .ensures)
+
+pub max-of-spans-spec : {M : Type 1} → statement M
+max-of-spans-spec = tie.close (tie.spec greater-requires greater-requires-2 tidy-requires returns)

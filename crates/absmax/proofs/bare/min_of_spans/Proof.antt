@@ -1,0 +1,28 @@
+-- `bare::min_of_spans` meets its contract: the chosen ends are the true bounds.
+use mathlib.Core.Logic.{inl}
+use Rattle.patterns.specs.Format.{binary64}
+use Rattle.set_op.proofs.TrueEnds.{span-of, exact-proper, exact-answer}
+use Rattle.absmax.proofs.Extremes.{min-exact}
+use Rattle.absmax.proofs.bare.min_of_spans.Statement.{statement}
+use Rattle.absmax.proofs.bare.min_of_spans.Tie as tie
+
+lesser-requires : tie.Need-lesser-requires
+lesser-requires c κs = tt
+
+lesser-requires-2 : tie.Need-lesser-requires-2
+lesser-requires-2 c κs = tt
+
+tidy-requires : tie.Need-tidy-requires
+tidy-requires c κs =
+    let (x, y) = c .before .before .pre in
+    inl (exact-proper binary64 _ (min-exact binary64 (span-of binary64 _ x) (span-of binary64 _ y) (c .before .lesser .ensures) (c .lesser2 .ensures)))
+
+returns : tie.Need-returns
+returns c =
+    let (x, y) = c .before .before .before .pre in
+    exact-answer binary64
+    (min-exact binary64 (span-of binary64 _ x) (span-of binary64 _ y) (c .before .before .lesser .ensures) (c .before .lesser2 .ensures))
+    (c .tidy .ensures)
+
+pub min-of-spans-spec : {M : Type 1} → statement M
+min-of-spans-spec = tie.close (tie.spec lesser-requires lesser-requires-2 tidy-requires returns)

@@ -1,0 +1,27 @@
+-- `decorated::neg` meets its contract: what is found wrong is refused, and sound operands are answered.
+use Rattle.operands.proofs.TakenLaws.{sound₁, given₁, refused₁}
+use Rattle.arith.proofs.decorated.neg.Statement.{statement}
+use Rattle.arith.proofs.decorated.neg.Tie as tie
+
+take-one-dec-requires : tie.Need-take-one-dec-requires
+take-one-dec-requires c κs = tt
+
+enum-told : tie.Need-enum-told
+enum-told c = c .match .keys1
+
+neg-sound-requires : tie.Need-neg-sound-requires
+neg-sound-requires c κs = sound₁ (c .before .before .take-one-dec .ensures) (c .enum-told .given .1)
+
+enum-known-n : tie.Need-enum-known-n
+enum-known-n c = c .match .keys2
+
+returns : tie.Need-returns
+returns c = given₁ (c .before .before .before .take-one-dec .ensures) (c .before .enum-told .given .1) (c .neg-sound .ensures)
+
+returns-2 : tie.Need-returns-2
+returns-2 c = refused₁ (c .before .before .before .take-one-dec .ensures) (c .before .n .given .1)
+
+pub neg-spec : {M : Type 1} → statement M
+neg-spec =
+    tie.close
+    (tie.spec take-one-dec-requires enum-told neg-sound-requires enum-known-n returns returns-2)

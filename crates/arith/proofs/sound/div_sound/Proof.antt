@@ -1,0 +1,45 @@
+-- `sound::div_sound` meets its contract: NaI gives NaI, and intervals the bare answer with its decoration.
+use Rattle.patterns.specs.Format.{binary64, infinity, quietNaN}
+use Rattle.operands.proofs.SortedLaws.{intervals, right-nai, right-interval}
+use Rattle.arith.proofs.sound.div_sound.Statement.{statement}
+use Rattle.arith.proofs.sound.div_sound.Tie as tie
+
+two-operands-requires : tie.Need-two-operands-requires
+two-operands-requires c κs = c .pre
+
+enum-told : tie.Need-enum-told
+enum-told c = c .match .keys1
+
+enum-known-d : tie.Need-enum-known-d
+enum-known-d c = c .match .keys2
+
+div-sound-requires : tie.Need-div-sound-requires
+div-sound-requires c κs = intervals (c .before .before .before .two-operands .ensures) (c .before .d .given .1) .bares
+
+divided-decoration-requires : tie.Need-divided-decoration-requires
+divided-decoration-requires c κs = intervals (c .before .before .before .before .two-operands .ensures) (c .before .before .d .given .1) .bares .1
+
+decorate-requires : tie.Need-decorate-requires
+decorate-requires c κs = c .before .div-sound .ensures .canonical .bare
+
+returns : tie.Need-returns
+unfolding infinity quietNaN
+returns c = right-nai (c .before .before .two-operands .ensures) binary64 (c .enum-told .given .1)
+
+returns-2 : tie.Need-returns-2
+returns-2 c =
+    right-interval (c .before .before .before .before .before .before .two-operands .ensures) (c .before .before .before .before .d .given .1)
+    (c .before .before .div-sound .ensures) (c .before .divided-decoration .ensures) (c .decorate .ensures)
+
+pub div-sound-spec : {M : Type 1} → statement M
+div-sound-spec =
+    tie.close
+    (tie.spec
+    two-operands-requires
+    enum-told
+    enum-known-d
+    div-sound-requires
+    divided-decoration-requires
+    decorate-requires
+    returns
+    returns-2)

@@ -1,0 +1,30 @@
+-- `sub` meets its contract: what is found wrong is refused, and sound operands are answered.
+use Rattle.interval.proofs.StatementLaws.{sound-bare}
+use Rattle.operands.proofs.TakenLaws.{sound₂, given₂, refused₂}
+use Rattle.arith_bare.proofs.sub.Statement.{statement}
+use Rattle.arith_bare.proofs.sub.Tie as tie
+
+take-two-requires : tie.Need-take-two-requires
+take-two-requires c κs = tt
+
+enum-told : tie.Need-enum-told
+enum-told c = c .match .keys1
+
+sub-sound-requires : tie.Need-sub-sound-requires
+sub-sound-requires c κs =
+    let s = sound₂ (c .before .before .take-two .ensures) (c .enum-told .given .1) in
+    (sound-bare (s .0), sound-bare (s .1))
+
+enum-known-n : tie.Need-enum-known-n
+enum-known-n c = c .match .keys2
+
+returns : tie.Need-returns
+returns c = given₂ (c .before .before .before .take-two .ensures) (c .before .enum-told .given .1) (c .sub-sound .ensures)
+
+returns-2 : tie.Need-returns-2
+returns-2 c = refused₂ (c .before .before .before .take-two .ensures) (c .before .n .given .1)
+
+pub sub-spec : {M : Type 1} → statement M
+sub-spec =
+    tie.close
+    (tie.spec take-two-requires enum-told sub-sound-requires enum-known-n returns returns-2)

@@ -1,0 +1,52 @@
+// Two ends combined and rounded upward. Infinite ends are dealt with here, and nowhere else.
+ghost use Rattle.patterns.specs.Format.{binary64};
+ghost use Rattle.patterns.specs.Value.{Finite};
+ghost use Rattle.meaning.specs.Classes.{AtZero};
+ghost use Rattle.meaning.specs.Pairs.{endOf};
+ghost use Rattle.meaning.specs.Supremum.{UpperEnd};
+ghost use Rattle.exact_ends.specs.Ends.{sumEnd, productEnd, quotientEnd};
+ghost use Rattle.interval.specs.Answers.{Answers};
+use interval::INFINITY;
+use interval::is_finite;
+use products::mul_ru;
+use quotients::div_ru;
+use sums::add_ru;
+
+fn both_finite(a: u64, b: u64) -> bool
+    ensures { λ r. ⌜ Answers (Finite binary64 a × Finite binary64 b) r ⌝ }
+{
+    is_finite(a) && is_finite(b)
+}
+
+pub fn sum_end(a: u64, b: u64) -> u64
+    ensures { λ r. ⌜ UpperEnd binary64 (sumEnd (endOf binary64 a) (endOf binary64 b)) r ⌝ }
+{
+    if both_finite(a, b) {
+        return add_ru(a, b);
+    }
+    INFINITY
+}
+
+// The product of two ends that have the same sign where either is infinite.
+pub fn product_end(a: u64, b: u64) -> u64
+    ensures { λ r. ⌜ UpperEnd binary64 (productEnd (endOf binary64 a) (endOf binary64 b)) r ⌝ }
+{
+    if both_finite(a, b) {
+        return mul_ru(a, b);
+    }
+    INFINITY
+}
+
+// The quotient by an end that is not 0. An infinite divisor gives 0.
+pub fn quotient_end(a: u64, b: u64) -> u64
+    requires { ⌜ (AtZero (endOf binary64 b) → ⊥) ⌝ }
+    ensures { λ r. ⌜ UpperEnd binary64 (quotientEnd (endOf binary64 a) (endOf binary64 b)) r ⌝ }
+{
+    if both_finite(a, b) {
+        return div_ru(a, b);
+    }
+    if is_finite(a) {
+        return 0;
+    }
+    INFINITY
+}

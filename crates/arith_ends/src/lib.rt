@@ -1,0 +1,12 @@
+// Upper ends of sums, products and quotients, rounded upward, and what a divisor says of a quotient.
+// A lower end is the upper end of the mirror image, negated.
+mod divisor;
+mod ends;
+mod product;
+mod quotient;
+
+pub use divisor::divided_decoration;
+pub use divisor::is_zero;
+pub use ends::sum_end;
+pub use product::product_upper;
+pub use quotient::quotient_upper;

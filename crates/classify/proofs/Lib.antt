@@ -1,0 +1,3 @@
+-- Laws of the classes.
+pub mod ClassLaws
+pub mod OneAnswer

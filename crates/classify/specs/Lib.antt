@@ -1,0 +1,2 @@
+-- What the contracts of classification cite.
+pub mod Conversions

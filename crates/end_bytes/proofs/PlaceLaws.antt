@@ -1,0 +1,69 @@
+-- Eight bytes taken from a place of a list, and put there.
+use mathlib.Core.Path.{_≡_, refl, sym, _∙_, ap, ap₂}
+use mathlib.Core.List.{List, [], _∷_, _++_, append-assoc, append-nil}
+use Prim.Native.Nat.{ℕ, _+_, _-_, _≤_}
+use native.Mathlib.Nat.{le-of-eq, le-refl}
+use native.Mathlib.Omega.{arith}
+use lib.ListN.{length, take, drop, set, length-drop, drop-of-length-le}
+use lib.Seq.{length-take-le, take-all, take-at, drop-at, drop-drop, set-at}
+use borrow.Rule.Slice.PartMut.{putMid}
+use Rattle.meaning.specs.Pairs.{Pair}
+use Rattle.meaning.specs.Bytes.{ByteOrder, bigEndian, littleEndian, writePair}
+
+-- What is copied over a list of the same length replaces it.
+copied-over : (n : ℕ) (s d : List ℕ) → length s ≡ n → length d ≡ n → take n s ++ drop n d ≡ s
+copied-over n s d e f =
+    ap₂ _++_ (take-all n s (le-of-eq e)) (drop-of-length-le d {i = n} (le-of-eq f)) ∙ append-nil s
+
+pub copied-eight : (s d : List ℕ) (start : ℕ) → start + 8 ≤ length s → length d ≡ 8
+    → (l : List ℕ) → l ≡ take (start + 8 - start) (drop start s)
+    → take (length l) l ++ drop (length l) d ≡ take 8 (drop start s)
+copied-eight s d start fits eight l e =
+    ap (λ (n : ℕ). take n l ++ drop n d) long ∙ copied-over 8 l d long eight ∙ is-part
+  where
+    is-part : l ≡ take 8 (drop start s)
+    is-part = e ∙ ap (λ (n : ℕ). take n (drop start s)) {x = start + 8 - start} {y = 8} (omega arith)
+
+    long : length l ≡ 8
+    long = ap length is-part ∙ length-take-le 8 (drop start s) (omega (arith, length-drop start s))
+
+pub placed-eight : (s d : List ℕ) (start : ℕ) → start + 8 ≤ length s → length d ≡ 8
+    → (l : List ℕ) → l ≡ take (length d) d ++ drop (length d) (take (length s - start) (drop start s))
+    → putMid start (length s - start) s l ≡ take start s ++ (d ++ drop (start + 8) s)
+placed-eight s d start fits eight l e =
+    ap (λ (m : List ℕ). take start s ++ m) (ap₂ _++_ put none ∙ append-nil (d ++ drop (start + 8) s))
+  where
+    rest : length (drop start s) ≡ length s - start
+    rest = length-drop start s
+
+    none : drop (length s - start) (drop start s) ≡ []
+    none = drop-of-length-le (drop start s) {i = length s - start} (le-of-eq rest)
+
+    after : drop (length d) (take (length s - start) (drop start s)) ≡ drop (start + 8) s
+    after =
+        ap₂ drop eight (take-all (length s - start) (drop start s) (le-of-eq rest)) ∙ drop-drop 8 start s
+
+    put : l ≡ d ++ drop (start + 8) s
+    put = e ∙ ap₂ _++_ (take-all (length d) d (le-refl (length d))) after
+
+-- Two times eight bytes put first.
+pub placed-both : (s l u first second : List ℕ) → length l ≡ 8
+    → first ≡ take 0 s ++ (l ++ drop (0 + 8) s)
+    → second ≡ take 8 first ++ (u ++ drop (8 + 8) first)
+    → second ≡ (l ++ u) ++ drop 16 s
+placed-both s l u first second eight e f =
+    f ∙ ap₂ _++_ lower (ap (λ (t : List ℕ). u ++ t) rest) ∙ sym (append-assoc l u (drop 16 s))
+  where
+    lower : take 8 first ≡ l
+    lower = ap (take 8) e ∙ take-at l (drop 8 s) 8 eight
+
+    rest : drop 16 first ≡ drop 16 s
+    rest = sym (drop-drop 8 8 first) ∙ ap (drop 8) (ap (drop 8) e ∙ drop-at l (drop 8 s) 8 eight) ∙ drop-drop 8 8 s
+
+pub length-pair : (o : ByteOrder) (p : Pair) → length (writePair o p) ≡ 16
+length-pair bigEndian p = refl
+length-pair littleEndian p = refl
+
+-- The byte after the sixteen of two ends.
+pub placed-byte : (o : ByteOrder) (p : Pair) (b : ℕ) (l : List ℕ) → l ≡ writePair o p ++ (0 ∷ []) → set l 16 b ≡ writePair o p ++ (b ∷ [])
+placed-byte o p b l e = ap (λ (l : List ℕ). set l 16 b) e ∙ set-at (writePair o p) 0 [] b 16 (length-pair o p)

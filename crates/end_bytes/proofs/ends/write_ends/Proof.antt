@@ -1,0 +1,58 @@
+-- `ends::write_ends` meets its contract: each end is written as its eight bytes, brought into order.
+use mathlib.Core.Path.{_≡_, _∙_, ap, ap₂}
+use mathlib.Core.List.{List, _++_}
+use Prim.Native.Nat.{ℕ}
+use borrow.Author.Needs.{needs}
+use lib.ListN.{length, drop}
+use Rattle.meaning.specs.Bytes.{inOrder}
+use Rattle.end_bytes.specs.Conversions.{orderOf}
+use Rattle.end_bytes.proofs.PlaceLaws.{placed-both}
+use Rattle.end_bytes.proofs.ends.write_ends.Statement.{statement}
+use Rattle.end_bytes.proofs.ends.write_ends.Tie as tie
+
+to-digits-requires : tie.Need-to-digits-requires
+to-digits-requires c κs = tt
+
+in-order-requires : tie.Need-in-order-requires
+in-order-requires c κs = tt
+
+put-eight-requires : tie.Need-put-eight-requires
+put-eight-requires c κs = search needs
+
+to-digits-requires-2 : tie.Need-to-digits-requires-2
+to-digits-requires-2 c κs = tt
+
+in-order-requires-2 : tie.Need-in-order-requires-2
+in-order-requires-2 c κs = tt
+
+put-eight-requires-2 : tie.Need-put-eight-requires-2
+put-eight-requires-2 c κs = search needs
+
+same-length : tie.Need-same-length
+same-length c = search needs
+
+returns : tie.Need-returns
+returns c =
+    let second = c .before .before in
+    let first = second .before .before .before .before .before .before in
+    let a = first .before .before .before .before .before .args in
+    let o = orderOf (a .order) in
+    let lower = first .before .in-order .ensures ∙ ap (inOrder o) (first .before .before .to-digits .ensures) in
+    let upper = second .before .in-order2 .ensures ∙ ap (inOrder o) (second .before .before .to-digits2 .ensures) in
+    let eight : length (first .before .in-order .result) ≡ 8 = search needs in
+    placed-both (a .s .now) (first .before .in-order .result) (second .before .in-order2 .result) _ _ eight
+    (first .put-eight .ensures) (second .put-eight2 .ensures)
+    ∙ ap (λ (t : List ℕ). t ++ drop 16 (a .s .now)) (ap₂ _++_ lower upper)
+
+pub write-ends-spec : {M : Type 1} → statement M
+write-ends-spec =
+    tie.close
+    (tie.spec
+    to-digits-requires
+    in-order-requires
+    put-eight-requires
+    to-digits-requires-2
+    in-order-requires-2
+    put-eight-requires-2
+    same-length
+    returns)

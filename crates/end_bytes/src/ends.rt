@@ -1,0 +1,55 @@
+// The bytes of an interval's two ends, taken apart and put together.
+ghost use mathlib.Core.List.{_++_};
+ghost use mathlib.Core.Path.{_≡_};
+ghost use Prim.Native.Nat.{_+_, _≤_};
+ghost use lib.ListN.{length, take, drop};
+ghost use Rattle.meaning.specs.Bytes.{readPair, writePair};
+ghost use Rattle.interval.specs.Conversions.{pairOf};
+ghost use Rattle.end_bytes.specs.Conversions.{orderOf};
+use crate::digits::ByteOrder;
+use crate::digits::from_digits;
+use crate::digits::in_order;
+use crate::digits::to_digits;
+use interval::Interval;
+
+// Where the bytes of the upper end start.
+const UPPER_AT: usize = 8;
+
+// The eight bytes from a place on.
+fn eight_at(s: &[u8], start: usize) -> [u8; 8]
+    requires { ⌜ start + 8 ≤ length (now s) ⌝ }
+    ensures { λ r. ⌜ r ≡ take 8 (drop start (now (s .entry))) ⌝ }
+{
+    let mut d = [0u8; 8];
+    let end = start + 8;
+    bytes::copy(&s[start..end], &mut d);
+    d
+}
+
+// Puts eight bytes at a place.
+fn put_eight(s: &mut [u8], start: usize, d: [u8; 8])
+    requires { ⌜ start + 8 ≤ length (now s) ⌝ }
+    ensures { λ _. ⌜ now (s .exit) ≡ take start (now (s .entry)) ++ (d ++ drop (start + 8) (now (s .entry))) ⌝ }
+{
+    bytes::copy(&d, &mut s[start..]);
+}
+
+// The two ends that the first sixteen bytes stand for.
+pub fn read_ends(s: &[u8], order: ByteOrder) -> Interval
+    requires { ⌜ 16 ≤ length (now s) ⌝ }
+    ensures { λ r. ⌜ pairOf r ≡ readPair (orderOf order) (now (s .entry)) ⌝ }
+{
+    Interval {
+        a: from_digits(in_order(eight_at(s, 0), order)),
+        b: from_digits(in_order(eight_at(s, UPPER_AT), order)),
+    }
+}
+
+// Puts the sixteen bytes of two ends first.
+pub fn write_ends(s: &mut [u8], x: Interval, order: ByteOrder)
+    requires { ⌜ 16 ≤ length (now s) ⌝ }
+    ensures { λ _. ⌜ now (s .exit) ≡ writePair (orderOf order) (pairOf x) ++ drop 16 (now (s .entry)) ⌝ }
+{
+    put_eight(s, 0, in_order(to_digits(x.a), order));
+    put_eight(s, UPPER_AT, in_order(to_digits(x.b), order));
+}

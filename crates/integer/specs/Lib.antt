@@ -1,0 +1,3 @@
+-- What the contracts of functions on intervals cite.
+pub mod Rising
+pub mod Jumping

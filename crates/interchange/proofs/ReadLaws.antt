@@ -1,0 +1,63 @@
+-- From the steps of reading to the statements of what is read.
+use mathlib.Core.Path.{_≡_, subst}
+use mathlib.Core.List.{List}
+use mathlib.Core.Logic.{inl, inr}
+use Prim.Native.Nat.{ℕ}
+use Rattle.patterns.specs.Format.{Format}
+use Rattle.meaning.specs.Pairs.{Pair, Canonical, NaNs}
+use Rattle.meaning.specs.Decorations as meant
+use Rattle.meaning.specs.Statement.{Outcome, wrong, Answered₁, first₁, right₁, DecPair, Ends, JudgedDecorated, decoratedFive, decoratedSix}
+use Rattle.meaning.specs.Bytes.{ByteOrder, readPair, SaysDecoration, BytesEnds, canonicalEnds, nanEnds, JudgedDecBytes, decBytesFive, decBytesSix, decBytesGood, ReadDecorated, readNaI, readInterval}
+use Rattle.interval.specs.Conversions.{decorationOf}
+use Rattle.interval.specs.declared.types.Decoration.{Decoration}
+use Rattle.interchange.specs.Reading.{SaidBy, says, saysNone, JudgedRead, readFive, readSix, readGood, ReadAs, asNaI, asItself}
+use Rattle.interchange.specs.declared.decorated.ByteDecoration.{ByteDecoration}
+
+pub known : {b : ℕ} {r : ByteDecoration} {d : Decoration} → SaidBy b r → r ≡ ByteDecoration.Known d
+    → b ≡ meant.decorationByte (decorationOf d)
+known {b} s e = go (subst (SaidBy b) e s)
+  where
+    go : {b : ℕ} {d : Decoration} → SaidBy b (ByteDecoration.Known d) → b ≡ meant.decorationByte (decorationOf d)
+    go (says e) = e
+
+pub unknown : {b : ℕ} {r : ByteDecoration} → SaidBy b r → r ≡ ByteDecoration.Unknown
+    → (d : meant.Decoration) → b ≡ meant.decorationByte d → ⊥
+unknown {b} s e = go (subst (SaidBy b) e s)
+  where
+    go : {b : ℕ} → SaidBy b ByteDecoration.Unknown → (d : meant.Decoration) → b ≡ meant.decorationByte d → ⊥
+    go (saysNone n) = n
+
+-- A byte that is none of the five says no decoration.
+pub says-none : {b : ℕ} → (b ≡ 0 → ⊥) → (b ≡ 4 → ⊥) → (b ≡ 8 → ⊥) → (b ≡ 12 → ⊥) → (b ≡ 16 → ⊥)
+    → SaidBy b ByteDecoration.Unknown
+says-none {b} n₀ n₄ n₈ n₁₂ n₁₆ = saysNone go
+  where
+    go : (d : meant.Decoration) → b ≡ meant.decorationByte d → ⊥
+    go meant.Ill = n₀
+    go meant.Trv = n₄
+    go meant.Def = n₈
+    go meant.Dac = n₁₂
+    go meant.Com = n₁₆
+
+module _ {F : Format} where
+  pub only-nans : {p : Pair} → (Canonical F p → ⊥) → BytesEnds F p → NaNs F p
+  only-nans n (canonicalEnds k) = absurd (n k)
+  only-nans n (nanEnds m) = m
+
+  bytes-ends : {p : Pair} → BytesEnds F p → Ends F p
+  bytes-ends (canonicalEnds k) = inl (k .bare)
+  bytes-ends (nanEnds n) = inr n
+
+  -- What is wrong with ends that bytes may have is their decoration.
+  pub wrong-read : {x : DecPair} {n : ℕ} → BytesEnds F (x .pair) → JudgedDecorated F x (wrong n) → JudgedRead F x (wrong n)
+  wrong-read b (decoratedFive n) = absurd (n (bytes-ends b))
+  wrong-read b (decoratedSix e a) = readSix b a
+
+  -- What is read of the ends and a decoration that the bytes say is read of the bytes.
+  pub read-known : {o : ByteOrder} {bs : List ℕ} {d : meant.Decoration} {out : Outcome DecPair} → SaysDecoration bs d
+      → Answered₁ (JudgedRead F) (ReadAs F) (record { pair = readPair o bs; decoration = d }) out
+      → Answered₁ (JudgedDecBytes F o) (ReadDecorated F o) bs out
+  read-known {d = d} s (first₁ (readFive n)) = first₁ (decBytesFive d s n)
+  read-known {d = d} s (first₁ (readSix b a)) = first₁ (decBytesSix d s b a)
+  read-known {d = d} s (right₁ (readGood b a) (asNaI n)) = right₁ (decBytesGood d s b a) (readNaI n)
+  read-known {d = d} s (right₁ (readGood b a) (asItself n)) = right₁ (decBytesGood d s b a) (readInterval d s n)

@@ -1,0 +1,34 @@
+-- `bare::read` meets its contract: the ends that were read are answered if they are canonical.
+use mathlib.Core.Path.{subst, subst⁻¹}
+use borrow.Author.Needs.{needs}
+use Rattle.patterns.specs.Format.{binary64}
+use Rattle.meaning.specs.Pairs.{Canonical}
+use Rattle.meaning.specs.Statement.{first₁, right₁}
+use Rattle.meaning.specs.Bytes.{bytesFive, bytesGood}
+use Rattle.interval.proofs.AnswerLaws.{said-yes, said-no}
+use Rattle.interchange.proofs.bare.read.Statement.{statement}
+use Rattle.interchange.proofs.bare.read.Tie as tie
+
+slice-aggregate-read-ends : tie.Need-slice-aggregate-read-ends
+slice-aggregate-read-ends c = search needs
+
+read-ends-requires : tie.Need-read-ends-requires
+read-ends-requires c κs = search needs
+
+is-canonical-requires : tie.Need-is-canonical-requires
+is-canonical-requires c κs = tt
+
+returns : tie.Need-returns
+returns c =
+    let read = c .before .before .read-ends .ensures in
+    right₁ (bytesGood (subst (Canonical binary64) read (said-yes (c .before .is-canonical .ensures) (c .if1 .taken)))) read
+
+returns-2 : tie.Need-returns-2
+returns-2 c =
+    let read = c .before .before .read-ends .ensures in
+    first₁ (bytesFive (λ k. said-no (c .before .is-canonical .ensures) (c .if1 .left) (subst⁻¹ (Canonical binary64) read k)))
+
+pub read-spec : {M : Type 1} → statement M
+read-spec =
+    tie.close
+    (tie.spec slice-aggregate-read-ends read-ends-requires is-canonical-requires returns returns-2)

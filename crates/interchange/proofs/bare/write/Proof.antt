@@ -1,0 +1,59 @@
+-- `bare::write` meets its contract: what is found wrong is refused, and a sound operand written with its zeros tidied.
+use mathlib.Core.Path.{refl, _∙_}
+use mathlib.Core.List.{append-nil}
+use borrow.Author.Needs.{needs}
+use Rattle.patterns.specs.Format.{binary64}
+use Rattle.meaning.specs.Statement.{refused, given, right₁, JudgedBare}
+use Rattle.interval.proofs.StatementLaws.{judged-sound, answered-wrong, sound-bare}
+use Rattle.interchange.proofs.bare.write.Statement.{statement}
+use Rattle.interchange.proofs.bare.write.Tie as tie
+
+judge-requires : tie.Need-judge-requires
+judge-requires c κs = tt
+
+enum-told : tie.Need-enum-told
+enum-told c = c .match .keys1
+
+slice-aggregate-write-ends : tie.Need-slice-aggregate-write-ends
+slice-aggregate-write-ends c = search needs
+
+tidy-requires : tie.Need-tidy-requires
+tidy-requires c κs = sound-bare (judged-sound (JudgedBare binary64) (c .before .before .before .judge .ensures) (c .before .enum-told .given .1))
+
+write-ends-requires : tie.Need-write-ends-requires
+write-ends-requires c κs = search needs
+
+enum-known-n : tie.Need-enum-known-n
+enum-known-n c = c .match .keys2
+
+returns : tie.Need-returns
+returns c =
+    let k = c .before .before .before .before in
+    record {
+      outcome = given _;
+      right =
+          right₁ (judged-sound (JudgedBare binary64) (k .before .before .judge .ensures) (k .enum-told .given .1))
+          (record { tidied = _; is = c .before .before .tidy .ensures; bytes = c .before .write-ends .ensures ∙ append-nil _ });
+      is = refl;
+    }
+
+returns-2 : tie.Need-returns-2
+returns-2 c =
+    record {
+      outcome = refused _ _;
+      right = answered-wrong (JudgedBare binary64) (c .before .before .before .judge .ensures) (c .before .n .given .1);
+      is = refl;
+    }
+
+pub write-spec : {M : Type 1} → statement M
+write-spec =
+    tie.close
+    (tie.spec
+    judge-requires
+    enum-told
+    slice-aggregate-write-ends
+    tidy-requires
+    write-ends-requires
+    enum-known-n
+    returns
+    returns-2)

@@ -1,0 +1,19 @@
+-- `decorated::read_as` meets its contract: NaI is answered by its constant.
+use Rattle.patterns.specs.Format.{infinity, quietNaN}
+use Rattle.interval.proofs.AnswerLaws.{said-yes, said-no}
+use Rattle.interchange.specs.Reading.{asNaI, asItself}
+use Rattle.interchange.proofs.decorated.read_as.Statement.{statement}
+use Rattle.interchange.proofs.decorated.read_as.Tie as tie
+
+are-nans-requires : tie.Need-are-nans-requires
+are-nans-requires c κs = tt
+
+returns : tie.Need-returns
+unfolding infinity quietNaN
+returns c = asNaI (said-yes (c .before .are-nans .ensures) (c .if1 .taken))
+
+returns-2 : tie.Need-returns-2
+returns-2 c = asItself (said-no (c .before .are-nans .ensures) (c .if1 .left))
+
+pub read-as-spec : {M : Type 1} → statement M
+read-as-spec = tie.close (tie.spec are-nans-requires returns returns-2)

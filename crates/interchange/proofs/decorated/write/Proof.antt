@@ -1,0 +1,81 @@
+-- `decorated::write` meets its contract: what is found wrong is refused, and a sound operand written as the bytes have it.
+use mathlib.Core.Path.{refl, _∙_, ap}
+use mathlib.Core.List.{[], _∷_, _++_}
+use Prim.Native.Nat.{ℕ}
+use borrow.Author.Needs.{needs}
+use Rattle.patterns.specs.Format.{binary64}
+use Rattle.meaning.specs.Statement.{refused, given, right₁, JudgedDecorated}
+use Rattle.meaning.specs.Bytes.{writePair}
+use Rattle.interval.specs.Conversions.{pairOf}
+use Rattle.interval.proofs.StatementLaws.{judged-sound, answered-wrong, sound-ends}
+use Rattle.end_bytes.specs.Conversions.{orderOf}
+use Rattle.end_bytes.proofs.PlaceLaws.{placed-byte}
+use Rattle.interchange.proofs.decorated.write.Statement.{statement}
+use Rattle.interchange.proofs.decorated.write.Tie as tie
+
+judge-dec-requires : tie.Need-judge-dec-requires
+judge-dec-requires c κs = tt
+
+enum-told : tie.Need-enum-told
+enum-told c = c .match .keys1
+
+tidy-dec-requires : tie.Need-tidy-dec-requires
+tidy-dec-requires c κs = sound-ends (judged-sound (JudgedDecorated binary64) (c .before .before .judge-dec .ensures) (c .enum-told .given .1))
+
+slice-aggregate-write-ends : tie.Need-slice-aggregate-write-ends
+slice-aggregate-write-ends c = search needs
+
+write-ends-requires : tie.Need-write-ends-requires
+write-ends-requires c κs = search needs
+
+decoration-byte-requires : tie.Need-decoration-byte-requires
+decoration-byte-requires c κs = tt
+
+array-write-bytes : tie.Need-array-write-bytes
+array-write-bytes c = search needs
+
+enum-known-n : tie.Need-enum-known-n
+enum-known-n c = c .match .keys2
+
+returns : tie.Need-returns
+returns c =
+    let z = c .before .before .before .before .before in
+    let k = z .before in
+    let o = orderOf (k .before .before .before .args .order) in
+    let p = pairOf (z .tidy-dec .result .x) in
+    record {
+      outcome = given _;
+      right =
+          right₁ (judged-sound (JudgedDecorated binary64) (k .before .before .judge-dec .ensures) (k .enum-told .given .1))
+          (record {
+            tidied = _;
+            is = z .tidy-dec .ensures;
+            bytes =
+                placed-byte o p (c .decoration-byte .result) _ (c .before .before .write-ends .ensures)
+                ∙ ap (λ (d : ℕ). writePair o p ++ (d ∷ [])) (c .decoration-byte .ensures);
+          });
+      is = refl;
+    }
+
+returns-2 : tie.Need-returns-2
+returns-2 c =
+    record {
+      outcome = refused _ _;
+      right = answered-wrong (JudgedDecorated binary64) (c .before .before .before .judge-dec .ensures) (c .before .n .given .1);
+      is = refl;
+    }
+
+pub write-spec : {M : Type 1} → statement M
+write-spec =
+    tie.close
+    (tie.spec
+    judge-dec-requires
+    enum-told
+    tidy-dec-requires
+    slice-aggregate-write-ends
+    write-ends-requires
+    decoration-byte-requires
+    array-write-bytes
+    enum-known-n
+    returns
+    returns-2)

@@ -1,0 +1,3 @@
+-- What the contracts of interchange bytes cite.
+pub mod Reading
+pub mod Written

@@ -1,0 +1,44 @@
+-- The right bytes, and the answer that holds them.
+use mathlib.Core.Path.{_≡_}
+use mathlib.Core.List.{List, [], _∷_, _++_}
+use Prim.Native.Nat.{ℕ}
+use lib.ListN.{replicate}
+use Rattle.patterns.specs.Format.{Format}
+use Rattle.meaning.specs.Pairs.{Pair}
+use Rattle.meaning.specs.Decorations.{decorationByte}
+use Rattle.meaning.specs.Statement.{Outcome, refused, given, Verdict, Answered₁, DecPair}
+use Rattle.meaning.specs.Bytes.{ByteOrder, writePair, Tidied}
+use Rattle.interval.specs.Values.{TidiedDec}
+use Rattle.interchange.specs.declared.bare.BytesAnswer.{BytesAnswer}
+use Rattle.interchange.specs.declared.decorated.DecBytesAnswer.{DecBytesAnswer}
+
+-- "Lower end, upper end, eight bytes each. Decorated: a seventeenth byte".
+abbrev pub writeDecorated : ByteOrder → DecPair → List ℕ
+writeDecorated o x = writePair o (x .pair) ++ (decorationByte (x .decoration) ∷ [])
+
+-- The bytes of a bare interval: "A zero lower end is written -0.0 and a zero upper end +0.0".
+pub record Written (F : Format) (o : ByteOrder) (x : Pair) (bs : List ℕ) : Type 0 where
+  pub tidied : Pair
+  pub is : Tidied F x tidied
+  pub bytes : bs ≡ writePair o tidied
+
+-- The bytes of a decorated interval; of NaI, "7FF8000000000000 twice is written".
+pub record WrittenDec (F : Format) (o : ByteOrder) (x : DecPair) (bs : List ℕ) : Type 0 where
+  pub tidied : DecPair
+  pub is : TidiedDec F x tidied
+  pub bytes : bs ≡ writeDecorated o tidied
+
+-- The answer of an outcome: number 0 with the bytes; of a refusal its number and place, and zero bytes.
+abbrev pub bytesAnswerOf : Outcome (List ℕ) → BytesAnswer
+bytesAnswerOf (given bs) = record { number = 0; place = 0; bytes = bs }
+bytesAnswerOf (refused n p) = record { number = n; place = p; bytes = replicate 16 0 }
+
+abbrev pub decBytesAnswerOf : Outcome (List ℕ) → DecBytesAnswer
+decBytesAnswerOf (given bs) = record { number = 0; place = 0; bytes = bs }
+decBytesAnswerOf (refused n p) = record { number = n; place = p; bytes = replicate 17 0 }
+
+-- r is the answer of an outcome that is right for x.
+pub record AnsweredBy {A B R : Type 0} (answerOf : Outcome B → R) (Judged : A → Verdict → Type 0) (Right : A → B → Type 0) (x : A) (r : R) : Type 0 where
+  pub outcome : Outcome B
+  pub right : Answered₁ Judged Right x outcome
+  pub is : r ≡ answerOf outcome

@@ -1,0 +1,89 @@
+// Bare intervals as sixteen bytes: lower end, upper end, eight bytes each.
+ghost use mathlib.Core.Path.{_≡_};
+ghost use Rattle.patterns.specs.Format.{binary64};
+ghost use Rattle.meaning.specs.Statement.{Answered₁, JudgedBare};
+ghost use Rattle.meaning.specs.Bytes.{bigEndian, littleEndian, readPair, JudgedBytes};
+ghost use Rattle.interval.specs.Conversions.{pairOf, outcome};
+ghost use Rattle.end_bytes.specs.Conversions.{orderOf};
+ghost use Rattle.interchange.specs.Written.{AnsweredBy, Written, bytesAnswerOf};
+use crate::canonical::is_canonical;
+use end_bytes::ByteOrder;
+use end_bytes::read_ends;
+use end_bytes::write_ends;
+use interval::ACCEPTED;
+use interval::Answer;
+use interval::BAD_ENDS;
+use interval::FIRST;
+use interval::Interval;
+use interval::NO_PLACE;
+use interval::Verdict;
+use interval::judge;
+use interval::tidy;
+
+// Sixteen bytes with number 0, or a refusal's number and place with zero bytes.
+pub struct BytesAnswer {
+    pub number: u32,
+    pub place: u32,
+    pub bytes: [u8; 16],
+}
+
+// What bytes of either order stand for.
+fn read(bytes: [u8; 16], order: ByteOrder) -> Answer
+    ensures { λ r. ⌜ Answered₁ (JudgedBytes binary64 (orderOf order)) (λ bs z. z ≡ readPair (orderOf order) bs) bytes (outcome r) ⌝ }
+{
+    let x = read_ends(&bytes, order);
+    if is_canonical(x) {
+        return Answer::Given(x);
+    }
+    Answer::Refused(BAD_ENDS, FIRST)
+}
+
+// The bytes in either order.
+fn write(x: Interval, order: ByteOrder) -> BytesAnswer
+    ensures { λ r. ⌜ AnsweredBy bytesAnswerOf (JudgedBare binary64) (Written binary64 (orderOf order)) (pairOf x) r ⌝ }
+{
+    match judge(x) {
+        Verdict::Sound => {
+            let mut bytes = [0u8; 16];
+            write_ends(&mut bytes, tidy(x), order);
+            BytesAnswer {
+                number: ACCEPTED,
+                place: NO_PLACE,
+                bytes,
+            }
+        }
+        Verdict::Wrong(n) => BytesAnswer {
+            number: n,
+            place: FIRST,
+            bytes: [0u8; 16],
+        },
+    }
+}
+
+// The interval that big-endian bytes stand for.
+pub fn try_from_be_bytes(bytes: [u8; 16]) -> Answer
+    ensures { λ r. ⌜ Answered₁ (JudgedBytes binary64 bigEndian) (λ bs z. z ≡ readPair bigEndian bs) bytes (outcome r) ⌝ }
+{
+    read(bytes, ByteOrder::Big)
+}
+
+// The interval that little-endian bytes stand for.
+pub fn try_from_le_bytes(bytes: [u8; 16]) -> Answer
+    ensures { λ r. ⌜ Answered₁ (JudgedBytes binary64 littleEndian) (λ bs z. z ≡ readPair littleEndian bs) bytes (outcome r) ⌝ }
+{
+    read(bytes, ByteOrder::Little)
+}
+
+// The big-endian bytes of an interval.
+pub fn to_be_bytes(x: Interval) -> BytesAnswer
+    ensures { λ r. ⌜ AnsweredBy bytesAnswerOf (JudgedBare binary64) (Written binary64 bigEndian) (pairOf x) r ⌝ }
+{
+    write(x, ByteOrder::Big)
+}
+
+// The little-endian bytes of an interval.
+pub fn to_le_bytes(x: Interval) -> BytesAnswer
+    ensures { λ r. ⌜ AnsweredBy bytesAnswerOf (JudgedBare binary64) (Written binary64 littleEndian) (pairOf x) r ⌝ }
+{
+    write(x, ByteOrder::Little)
+}

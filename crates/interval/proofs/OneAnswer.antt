@@ -1,0 +1,63 @@
+-- Two answers that both satisfy the statement of a public function are equal, one theorem for each function.
+use mathlib.Core.Path.{_≡_, sym, _∙_}
+use Rattle.patterns.specs.Format.{Format}
+use Rattle.meaning.specs.Sets.{Set, empty, span, unbounded}
+use Rattle.meaning.specs.Pairs.{NaNs, setOf}
+use Rattle.meaning.specs.Decorations.{Decoration, Com, Point}
+use Rattle.meaning.specs.Statement.{Outcome, Verdict, Answered₁, JudgedBare, JudgedDecorated}
+use Rattle.meaning.specs.Bytes.{Tidied}
+use Rattle.meaning.proofs.Unique.{one-answer₁, judged-bare-once}
+use Rattle.interval.specs.Answers.{Answers}
+use Rattle.interval.specs.Conversions.{outcome, decOutcome, boolOutcome, endOutcome, decorationOutcome, partOutcome}
+use Rattle.interval.specs.Values.{TidiedDec, SetDec, LowerOf, UpperOf, PartOf, Common}
+use Rattle.interval.proofs.Codes.{answer-known, decAnswer-known, boolAnswer-known, endAnswer-known, decorationAnswer-known, partAnswer-known}
+use Rattle.interval.proofs.Once.{judged-decorated-once, answers-once, tidied-once, lower-once, upper-once, tidiedDec-once, setDec-once, part-once}
+
+-- One answer satisfies a statement whose answers have the outcomes f.
+abbrev Once : {A B R : Type 0} (f : R → Outcome B) (Judged : A → Verdict → Type 0) (Right : A → B → Type 0) → Type 0
+Once {A} {B} {R} f Judged Right = (x : A) (r s : R) → Answered₁ Judged Right x (f r) → Answered₁ Judged Right x (f s) → r ≡ s
+
+module _ (F : Format) where
+  pub try-from-once : Once outcome (JudgedBare F) (Tidied F)
+  try-from-once x r s a b = answer-known (one-answer₁ (judged-bare-once F x) (tidied-once F x) a b)
+
+  pub inf-once : Once endOutcome (JudgedBare F) (LowerOf F)
+  inf-once x r s a b = endAnswer-known (one-answer₁ (judged-bare-once F x) (lower-once F x) a b)
+
+  pub sup-once : Once endOutcome (JudgedBare F) (UpperOf F)
+  sup-once x r s a b = endAnswer-known (one-answer₁ (judged-bare-once F x) (upper-once F x) a b)
+
+  -- A question on the set of a bare interval.
+  pub asked-once : (P : Set → Type 0) → Once boolOutcome (JudgedBare F) (λ x. Answers (P (setOf F x)))
+  asked-once P x r s a b = boolAnswer-known (one-answer₁ (judged-bare-once F x) (answers-once (P (setOf F x))) a b)
+
+  pub is-empty-once : Once boolOutcome (JudgedBare F) (λ x. Answers (setOf F x ≡ empty))
+  is-empty-once = asked-once (λ (Z : Set). Z ≡ empty)
+
+  pub is-entire-once : Once boolOutcome (JudgedBare F) (λ x. Answers (setOf F x ≡ span unbounded unbounded))
+  is-entire-once = asked-once (λ (Z : Set). Z ≡ span unbounded unbounded)
+
+  pub is-common-interval-once : Once boolOutcome (JudgedBare F) (λ x. Answers (Common (setOf F x)))
+  is-common-interval-once = asked-once Common
+
+  pub is-singleton-once : Once boolOutcome (JudgedBare F) (λ x. Answers (Point (setOf F x)))
+  is-singleton-once = asked-once Point
+
+  pub dec-try-from-once : Once decOutcome (JudgedDecorated F) (TidiedDec F)
+  dec-try-from-once x r s a b = decAnswer-known (one-answer₁ (judged-decorated-once F x) (tidiedDec-once F x) a b)
+
+  -- `new` is `set_dec` at Com.
+  pub set-dec-once : (d : Decoration) → Once decOutcome (JudgedBare F) (SetDec F d)
+  set-dec-once d x r s a b = decAnswer-known (one-answer₁ (judged-bare-once F x) (setDec-once F d x) a b)
+
+  pub new-once : Once decOutcome (JudgedBare F) (SetDec F Com)
+  new-once = set-dec-once Com
+
+  pub interval-once : Once partOutcome (JudgedDecorated F) (PartOf F)
+  interval-once x r s a b = partAnswer-known (one-answer₁ (judged-decorated-once F x) (part-once F x) a b)
+
+  pub decoration-once : Once decorationOutcome (JudgedDecorated F) (λ x d. d ≡ x .decoration)
+  decoration-once x r s a b = decorationAnswer-known (one-answer₁ (judged-decorated-once F x) (λ d e p q. p ∙ sym q) a b)
+
+  pub is-nai-once : Once boolOutcome (JudgedDecorated F) (λ x. Answers (NaNs F (x .pair)))
+  is-nai-once x r s a b = boolAnswer-known (one-answer₁ (judged-decorated-once F x) (answers-once (NaNs F (x .pair))) a b)

@@ -1,0 +1,6 @@
+-- What the contracts of intervals cite.
+pub mod Answers
+pub mod Conversions
+pub mod Keys
+pub mod Tidy
+pub mod Values

@@ -1,0 +1,156 @@
+-- Requests and codecs on bytes, by document 01: "A request is one operation number and two operands, big endian".
+use mathlib.Core.Path.{_≡_}
+use mathlib.Core.List.{List, [], _∷_, _++_}
+use Prim.Native.Nat.{ℕ, zero, suc, _+_, _-_}
+use lib.ListN.{length, take, drop, getD}
+use Rattle.patterns.specs.Format.{Format}
+use Rattle.meaning.specs.Sets.{Set}
+use Rattle.meaning.specs.Pairs.{setOf}
+use Rattle.meaning.specs.Points.{Unary, neg, abs, ceil, floor, round, roundTiesEven, sign, trunc, add, sub, mul, div, max, min}
+use Rattle.meaning.specs.Results.{Operation, point, convexHull, intersection, Result₁, Result₂}
+use Rattle.meaning.specs.Decorations.{decorationByte}
+use Rattle.meaning.specs.Statement.{DecPair, Outcome, refused, given, Answered₁, Answered₂, HullOf, RightDec₁, RightDec₂}
+use Rattle.meaning.specs.Overlap.{OverlapNumber, DecoratedOverlap}
+use Rattle.meaning.specs.Bytes.{ByteOrder, bigEndian, readPair, writePair, JudgedBytes, JudgedDecBytes, ReadDecorated}
+
+-- What a request asks for: an operation of one operand, of two, or overlap.
+pub data Asked : Type 0 where
+  unary : Unary → Asked
+  binary : Operation → Asked
+  overlap : Asked
+
+-- "Numbers: 1 neg, 2 add, 3 sub, 4 mul, 5 div, 6 convex_hull, 7 intersection, 8 max, 9 min, 10 abs, 11 ceil, 12 floor,
+-- 13 round, 14 round_ties_even, 15 sign, 16 trunc, 17 overlap."
+abbrev pub operationNumber : Asked → ℕ
+operationNumber (unary neg) = 1
+operationNumber (binary (point add)) = 2
+operationNumber (binary (point sub)) = 3
+operationNumber (binary (point mul)) = 4
+operationNumber (binary (point div)) = 5
+operationNumber (binary convexHull) = 6
+operationNumber (binary intersection) = 7
+operationNumber (binary (point max)) = 8
+operationNumber (binary (point min)) = 9
+operationNumber (unary abs) = 10
+operationNumber (unary ceil) = 11
+operationNumber (unary floor) = 12
+operationNumber (unary round) = 13
+operationNumber (unary roundTiesEven) = 14
+operationNumber (unary sign) = 15
+operationNumber (unary trunc) = 16
+operationNumber overlap = 17
+
+-- count zero bytes.
+abbrev pub zeros : ℕ → List ℕ
+zeros zero = []
+zeros (suc count) = 0 ∷ zeros count
+
+-- "33 bytes bare (answer 16), 35 decorated (answer 17)"
+abbrev pub bareSize : ℕ
+bareSize = 16
+
+abbrev pub decoratedSize : ℕ
+decoratedSize = 17
+
+-- Seventeen bytes of a decorated interval.
+abbrev pub writeDecorated : ByteOrder → DecPair → List ℕ
+writeDecorated o x = writePair o (x .pair) ++ (decorationByte (x .decoration) ∷ [])
+
+-- The bytes of a right answer: an interval in interchange form.
+pub record Written {A : Type 0} (write : A → List ℕ) (Right : A → Type 0) (out : List ℕ) : Type 0 where
+  pub answer : A
+  pub right : Right answer
+  pub written : out ≡ write answer
+
+-- "Overlap answers its state number, then zero bytes."
+abbrev pub writeState : (size : ℕ) → ℕ → List ℕ
+writeState size n = n ∷ zeros (size - 1)
+
+-- The pair that bytes are read as, and the set that it stands for.
+abbrev setRead : Format → List ℕ → Set
+setRead F bs = setOf F (readPair bigEndian bs)
+
+-- The outcome of a bare operation on the bytes of its operands. "One-operand operations don't read the second operand."
+abbrev pub BareOutcome : Format → Asked → (first second : List ℕ) → Outcome (List ℕ) → Type 0
+BareOutcome F (unary op) first second o =
+    Answered₁ (JudgedBytes F bigEndian) (λ x out. Written (writePair bigEndian) (HullOf F (Result₁ op (setRead F x))) out) first o
+BareOutcome F (binary op) first second o =
+    Answered₂ (JudgedBytes F bigEndian)
+    (λ x y out. Written (writePair bigEndian) (HullOf F (Result₂ op (setRead F x) (setRead F y))) out) first second o
+BareOutcome F overlap first second o =
+    Answered₂ (JudgedBytes F bigEndian)
+    (λ x y out. Written (writeState bareSize) (OverlapNumber (setRead F x) (setRead F y)) out) first second o
+
+-- A right answer to decorated operands as their bytes are read.
+pub record Read₁ (F : Format) (Right : DecPair → List ℕ → Type 0) (first out : List ℕ) : Type 0 where
+  pub x : DecPair
+  pub readX : ReadDecorated F bigEndian first x
+  pub right : Right x out
+
+pub record Read₂ (F : Format) (Right : DecPair → DecPair → List ℕ → Type 0) (first second out : List ℕ) : Type 0 where
+  pub x : DecPair
+  pub y : DecPair
+  pub readX : ReadDecorated F bigEndian first x
+  pub readY : ReadDecorated F bigEndian second y
+  pub right : Right x y out
+
+-- The outcome of a decorated operation on the bytes of its operands.
+abbrev pub DecoratedOutcome : Format → Asked → (first second : List ℕ) → Outcome (List ℕ) → Type 0
+DecoratedOutcome F (unary op) first second o =
+    Answered₁ (JudgedDecBytes F bigEndian) (Read₁ F (λ x. Written (writeDecorated bigEndian) (RightDec₁ F op x))) first o
+DecoratedOutcome F (binary op) first second o =
+    Answered₂ (JudgedDecBytes F bigEndian) (Read₂ F (λ x y. Written (writeDecorated bigEndian) (RightDec₂ F op x y))) first second o
+DecoratedOutcome F overlap first second o =
+    Answered₂ (JudgedDecBytes F bigEndian) (Read₂ F (λ x y. Written (writeState decoratedSize) (DecoratedOverlap F x y))) first second o
+
+-- What a call on lent bytes leaves: its number, its place, and the whole output.
+-- "Numbers are tried in the order 1, 2, 3, then 4, 5, 6 .."; "A refusal leaves the lent output untouched."
+pub data Called (inSize outSize : ℕ) (Known : List ℕ → Type 0) (Outcomes : List ℕ → Outcome (List ℕ) → Type 0) (input before : List ℕ) :
+    (number place : ℕ) → List ℕ → Type 0 where
+  wrongLength : (length input ≡ inSize → ⊥) → Called inSize outSize Known Outcomes input before 1 0 before
+  wrongRoom : length input ≡ inSize → (length before ≡ outSize → ⊥) → Called inSize outSize Known Outcomes input before 2 0 before
+  unknown : length input ≡ inSize → length before ≡ outSize → (Known input → ⊥) → Called inSize outSize Known Outcomes input before 3 0 before
+  refusedBytes : {n p : ℕ} → length input ≡ inSize → length before ≡ outSize → Known input → Outcomes input (refused n p)
+    → Called inSize outSize Known Outcomes input before n p before
+  answered : {out : List ℕ} → length input ≡ inSize → length before ≡ outSize → Known input → Outcomes input (given out)
+    → Called inSize outSize Known Outcomes input before 0 0 out
+
+-- The operation number, and the two operands of a given size behind it.
+pub record Asks (input : List ℕ) (q : Asked) : Type 0 where
+  pub is : getD input 0 0 ≡ operationNumber q
+
+pub record Known (input : List ℕ) : Type 0 where
+  pub asked : Asked
+  pub asks : Asks input asked
+
+abbrev pub firstOperand : (size : ℕ) → List ℕ → List ℕ
+firstOperand size input = take size (drop 1 input)
+
+abbrev pub secondOperand : (size : ℕ) → List ℕ → List ℕ
+secondOperand size input = take size (drop (1 + size) input)
+
+pub record Requested (size : ℕ) (Outcomes : Asked → (first second : List ℕ) → Outcome (List ℕ) → Type 0) (input : List ℕ) (o : Outcome (List ℕ)) : Type 0 where
+  pub asked : Asked
+  pub asks : Asks input asked
+  pub outcome : Outcomes asked (firstOperand size input) (secondOperand size input) o
+
+-- The statements of the two request calls.
+abbrev pub BareRequest : Format → (input before : List ℕ) (number place : ℕ) (after : List ℕ) → Type 0
+BareRequest F input before number place after =
+    Called (1 + bareSize + bareSize) bareSize Known (Requested bareSize (BareOutcome F)) input before number place after
+
+abbrev pub DecoratedRequest : Format → (input before : List ℕ) (number place : ℕ) (after : List ℕ) → Type 0
+DecoratedRequest F input before number place after =
+    Called (1 + decoratedSize + decoratedSize) decoratedSize Known (Requested decoratedSize (DecoratedOutcome F)) input before number place after
+
+-- "a codec (bare or decorated) reads one interval in one byte order and writes it in the other, place 1 with 4 to 6"
+abbrev pub BareCodec : Format → (from to : ByteOrder) (input before : List ℕ) (number place : ℕ) (after : List ℕ) → Type 0
+BareCodec F from to input before number place after =
+    Called bareSize bareSize (λ bs. Unit {0}) (λ bs o. Answered₁ (JudgedBytes F from) (λ x out. out ≡ writePair to (readPair from x)) bs o)
+    input before number place after
+
+abbrev pub DecoratedCodec : Format → (from to : ByteOrder) (input before : List ℕ) (number place : ℕ) (after : List ℕ) → Type 0
+DecoratedCodec F from to input before number place after =
+    Called decoratedSize decoratedSize (λ bs. Unit {0})
+    (λ bs o. Answered₁ (JudgedDecBytes F from) (λ x out. Written (writeDecorated to) (ReadDecorated F from x) out) bs o)
+    input before number place after

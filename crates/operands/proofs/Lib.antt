@@ -1,0 +1,6 @@
+-- From what the shared steps find to the statements of operations.
+pub mod TakenLaws
+pub mod SortedLaws
+pub mod EmptyLaws
+pub mod MirrorLaws
+pub mod ExactHull

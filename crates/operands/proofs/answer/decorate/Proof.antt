@@ -1,0 +1,25 @@
+-- `answer::decorate` meets its contract: the interval stays, and its decoration is settled.
+use mathlib.Core.Path.{refl, _∙_, ap}
+use borrow.Author.Needs.{needs}
+use Rattle.patterns.specs.Format.{binary64}
+use Rattle.meaning.specs.Pairs.{setOf}
+use Rattle.meaning.specs.Decorations.{settled}
+use Rattle.interval.specs.Conversions.{pairOf}
+use Rattle.operands.proofs.answer.decorate.Statement.{statement}
+use Rattle.operands.proofs.answer.decorate.Tie as tie
+
+lower-decoration-requires : tie.Need-lower-decoration-requires
+lower-decoration-requires c κs = tt
+
+settled-requires : tie.Need-settled-requires
+settled-requires c κs = search needs
+
+returns : tie.Need-returns
+returns c =
+    record {
+      same = refl;
+      is = c .settled .ensures ∙ ap (settled (setOf binary64 (pairOf (c .before .before .args .z)))) (c .before .lower-decoration .ensures);
+    }
+
+pub decorate-spec : {M : Type 1} → statement M
+decorate-spec = tie.close (tie.spec lower-decoration-requires settled-requires returns)

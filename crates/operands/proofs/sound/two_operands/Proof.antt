@@ -1,0 +1,48 @@
+-- `sound::two_operands` meets its contract: each sound operand is NaI or an interval.
+use mathlib.Core.Logic.{inl, inr, ⊎-elim}
+use Rattle.patterns.specs.Format.{binary64}
+use Rattle.interval.specs.Conversions.{decorationOf}
+use Rattle.interval.proofs.AnswerLaws.{said-yes, said-no}
+use Rattle.operands.specs.Sorted.{sortedNaI, sortedIntervals}
+use Rattle.operands.proofs.SortedLaws.{sound-bare, sound-not-ill, lower-not-ill}
+use Rattle.operands.proofs.sound.two_operands.Statement.{statement}
+use Rattle.operands.proofs.sound.two_operands.Tie as tie
+
+are-nans-requires : tie.Need-are-nans-requires
+are-nans-requires c κs = tt
+
+returns : tie.Need-returns
+returns c = sortedNaI (inl (said-yes (c .before .are-nans .ensures) (c .if1 .taken)))
+
+are-nans-requires-2 : tie.Need-are-nans-requires-2
+are-nans-requires-2 c κs = tt
+
+returns-2 : tie.Need-returns-2
+returns-2 c = sortedNaI (inr (said-yes (c .before .are-nans2 .ensures) (c .if2 .taken)))
+
+lower-decoration-requires : tie.Need-lower-decoration-requires
+lower-decoration-requires c κs = tt
+
+returns-3 : tie.Need-returns-3
+returns-3 c =
+    let start = c .before .before .before .before .before in
+    let m = said-no (c .before .before .before .before .are-nans .ensures) (c .before .before .before .if1 .left) in
+    let n = said-no (c .before .before .are-nans2 .ensures) (c .before .if2 .left) in
+    sortedIntervals
+    (record {
+      notNaI = ⊎-elim m n;
+      bares = (sound-bare binary64 (start .pre .0) m, sound-bare binary64 (start .pre .1) n);
+      notIll = lower-not-ill (decorationOf (start .args .x .d)) (decorationOf (start .args .y .d)) (sound-not-ill binary64 (start .pre .0) m) (sound-not-ill binary64 (start .pre .1) n);
+      is = c .lower-decoration .ensures;
+    })
+
+pub two-operands-spec : {M : Type 1} → statement M
+two-operands-spec =
+    tie.close
+    (tie.spec
+    are-nans-requires
+    returns
+    are-nans-requires-2
+    returns-2
+    lower-decoration-requires
+    returns-3)

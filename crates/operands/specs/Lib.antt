@@ -1,0 +1,4 @@
+-- What the contracts of shared steps cite.
+pub mod Taken
+pub mod Sorted
+pub mod Mirror

@@ -1,0 +1,3 @@
+-- Laws of the keys of ends.
+pub mod EndKeys
+pub mod OneAnswer

@@ -1,0 +1,2 @@
+-- What the contracts of overlap cite.
+pub mod Conversions

@@ -1,0 +1,46 @@
+// The overlapping state of two intervals. The functions of this file take any value.
+ghost use Rattle.patterns.specs.Format.{binary64};
+ghost use Rattle.meaning.specs.Overlap.{BareOverlap, DecOverlap};
+ghost use Rattle.interval.specs.Conversions.{pairOf, decPairOf};
+ghost use Rattle.overlap.specs.Conversions.{overlapOutcome};
+
+mod answers;
+mod ends;
+mod state;
+mod valid;
+
+pub use answers::DecState;
+pub use answers::OverlapAnswer;
+pub use answers::dec_state_number;
+pub use answers::state_number;
+use interval::DecInterval;
+use interval::Interval;
+use operands::Taken;
+use operands::take_two;
+use operands::take_two_dec;
+pub use state::Overlap;
+pub use valid::overlap_of;
+pub use valid::overlap_of_dec;
+
+// The overlapping state of `x` and `y`. See `Overlap` for the possible states.
+pub fn overlap(x: Interval, y: Interval) -> OverlapAnswer
+    ensures { λ r. ⌜ BareOverlap binary64 (pairOf x) (pairOf y) (overlapOutcome r) ⌝ }
+{
+    match take_two(x, y) {
+        Taken::Sound => OverlapAnswer::Given(overlap_of(x, y)),
+        Taken::Refused(n, place) => OverlapAnswer::Refused(n, place),
+    }
+}
+
+// The decorated version of `overlap`. NaI has no state.
+pub fn overlap_dec(x: DecInterval, y: DecInterval) -> OverlapAnswer
+    ensures { λ r. ⌜ DecOverlap binary64 (decPairOf x) (decPairOf y) (overlapOutcome r) ⌝ }
+{
+    match take_two_dec(x, y) {
+        Taken::Sound => match overlap_of_dec(x, y) {
+            DecState::State(s) => OverlapAnswer::Given(s),
+            DecState::Nai => OverlapAnswer::Nai,
+        },
+        Taken::Refused(n, place) => OverlapAnswer::Refused(n, place),
+    }
+}

@@ -1,0 +1,2 @@
+-- What the exported functions take and answer.
+pub mod Columns

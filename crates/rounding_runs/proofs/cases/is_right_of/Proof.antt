@@ -1,0 +1,30 @@
+-- `rounding_runs::cases::is_right_of` meets its contract: the number is the operation's, and what the case says is right.
+use borrow.Author.Needs.{needs}
+use mathlib.Core.Path.{sym, _∙_}
+use Rattle.rounding_runs.proofs.Deciding.{decides-no}
+use Rattle.rounding_runs.proofs.cases.is_right_of.Statement.{statement}
+use Rattle.rounding_runs.proofs.cases.is_right_of.Tie as tie
+
+shared-slice-read-if1 : tie.Need-shared-slice-read-if1
+shared-slice-read-if1 c = search needs
+
+number-requires : tie.Need-number-requires
+number-requires c κs = search needs
+
+says-requires : tie.Need-says-requires
+says-requires c κs = search needs
+
+returns : tie.Need-returns
+returns c =
+    let of = c .before .if1 .taken ∙ c .before .before .number .ensures in
+    record {
+      sound = λ flag. record { of = of; says = c .says .ensures .sound flag };
+      complete = λ right. c .says .ensures .complete (right .says);
+    }
+
+returns-2 : tie.Need-returns-2
+returns-2 c = decides-no (λ right. c .if1 .left (right .of ∙ sym (c .before .number .ensures)))
+
+pub is-right-of-spec : {M : Type 1} → statement M
+is-right-of-spec =
+    tie.close (tie.spec shared-slice-read-if1 number-requires says-requires returns returns-2)

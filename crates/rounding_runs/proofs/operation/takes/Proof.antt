@@ -1,0 +1,42 @@
+-- `rounding_runs::operation::takes` meets its contract: it answers the questions of its parts in turn.
+use borrow.Author.Needs.{needs}
+use borrow.Author.Tests.{not-false, not-true}
+use Rattle.rounding_runs.proofs.Deciding.{decides-no, refuted}
+use Rattle.rounding_runs.proofs.operation.takes.Statement.{statement}
+use Rattle.rounding_runs.proofs.operation.takes.Tie as tie
+
+is-finite-requires : tie.Need-is-finite-requires
+is-finite-requires c κs = search needs
+
+returns : tie.Need-returns
+returns c = decides-no (λ takes. refuted (c .before .is-finite .ensures) (not-true _ (c .if1 .taken)) (takes .first))
+
+is-finite-requires-2 : tie.Need-is-finite-requires-2
+is-finite-requires-2 c κs = search needs
+
+returns-2 : tie.Need-returns-2
+returns-2 c = decides-no (λ takes. refuted (c .before .is-finite2 .ensures) (not-true _ (c .if2 .taken)) (takes .second))
+
+takes-second-requires : tie.Need-takes-second-requires
+takes-second-requires c κs = search needs
+
+returns-3 : tie.Need-returns-3
+returns-3 c =
+    let first = c .before .before .before .before .is-finite .ensures .sound (not-false _ (c .before .before .before .if1 .left)) in
+    let second = c .before .before .is-finite2 .ensures .sound (not-false _ (c .before .if2 .left)) in
+    let rest = c .takes-second .ensures in
+    record {
+      sound = λ flag. record { first = first; second = second; divisor = rest .sound flag };
+      complete = λ takes. rest .complete (takes .divisor);
+    }
+
+pub takes-spec : {M : Type 1} → statement M
+takes-spec =
+    tie.close
+    (tie.spec
+    is-finite-requires
+    returns
+    is-finite-requires-2
+    returns-2
+    takes-second-requires
+    returns-3)

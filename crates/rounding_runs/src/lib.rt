@@ -1,0 +1,4 @@
+// The three roundings by their operation, and the judging of stored cases.
+pub mod cases;
+pub mod operation;
+mod words;

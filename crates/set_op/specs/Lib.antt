@@ -1,0 +1,2 @@
+-- What the contracts of the operations on sets cite.
+pub mod Ends

@@ -1,0 +1,72 @@
+// The operations on bare intervals that were judged already.
+ghost use Rattle.patterns.specs.Format.{binary64};
+ghost use Rattle.meaning.specs.Pairs.{Proper, Bare, setOf};
+ghost use Rattle.meaning.specs.Results.{Result₂, convexHull, intersection};
+ghost use Rattle.meaning.specs.Statement.{HullOf};
+ghost use Rattle.interval.specs.Conversions.{pairOf};
+use crate::ends::greater;
+use crate::ends::lesser;
+use interval::Interval;
+use interval::is_empty_pair;
+use interval::less_or_equal;
+use interval::tidy;
+use operands::either_empty;
+
+// [min {a, c}, max {b, d}] for operands with members.
+fn hull_of_spans(x: Interval, y: Interval) -> Interval
+    requires { ⌜ Proper binary64 (pairOf x) × Proper binary64 (pairOf y) ⌝ }
+    ensures { λ r. ⌜ HullOf binary64 (Result₂ convexHull (setOf binary64 (pairOf x)) (setOf binary64 (pairOf y))) (pairOf r) ⌝ }
+{
+    tidy(Interval {
+        a: lesser(x.a, y.a),
+        b: greater(x.b, y.b),
+    })
+}
+
+// The tightest interval that contains both operands:
+//
+//             | y = ∅  | y = [c, d]
+// ------------+--------+--------------------------
+//  x = ∅      | ∅      | [c, d]
+//  x = [a, b] | [a, b] | [min {a, c}, max {b, d}]
+pub fn hull_of(x: Interval, y: Interval) -> Interval
+    requires { ⌜ Bare binary64 (pairOf x) × Bare binary64 (pairOf y) ⌝ }
+    ensures { λ r. ⌜ HullOf binary64 (Result₂ convexHull (setOf binary64 (pairOf x)) (setOf binary64 (pairOf y))) (pairOf r) ⌝ }
+{
+    if is_empty_pair(x) {
+        return tidy(y);
+    }
+    if is_empty_pair(y) {
+        return tidy(x);
+    }
+    hull_of_spans(x, y)
+}
+
+// [max {a, c}, min {b, d}] for operands with members, or EMPTY if they lie apart.
+fn intersection_of_spans(x: Interval, y: Interval) -> Interval
+    requires { ⌜ Proper binary64 (pairOf x) × Proper binary64 (pairOf y) ⌝ }
+    ensures { λ r. ⌜ HullOf binary64 (Result₂ intersection (setOf binary64 (pairOf x)) (setOf binary64 (pairOf y))) (pairOf r) ⌝ }
+{
+    let a = greater(x.a, y.a);
+    let b = lesser(x.b, y.b);
+    if less_or_equal(a, b) {
+        return tidy(Interval { a, b });
+    }
+    Interval::EMPTY
+}
+
+// The interval of the members of both operands:
+//
+//             | y = ∅ | y = [c, d]
+// ------------+-------+--------------------------
+//  x = ∅      | ∅     | ∅
+//  x = [a, b] | ∅     | [max {a, c}, min {b, d}]
+pub fn intersection_of(x: Interval, y: Interval) -> Interval
+    requires { ⌜ Bare binary64 (pairOf x) × Bare binary64 (pairOf y) ⌝ }
+    ensures { λ r. ⌜ HullOf binary64 (Result₂ intersection (setOf binary64 (pairOf x)) (setOf binary64 (pairOf y))) (pairOf r) ⌝ }
+{
+    if either_empty(x, y) {
+        return Interval::EMPTY;
+    }
+    intersection_of_spans(x, y)
+}

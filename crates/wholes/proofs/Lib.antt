@@ -1,0 +1,7 @@
+-- Laws of whole numbers next to a magnitude.
+pub mod DigitLaws
+pub mod EnclosureLaws
+pub mod PickLaws
+pub mod SplitLaws
+pub mod PartLaws
+pub mod SignedLaws

@@ -1,0 +1,26 @@
+-- `magnitudes::downward` meets its contract: a whole number stays, and between two the lower is taken.
+use borrow.Author.Needs.{needs}
+use Rattle.patterns.specs.Format.{binary64}
+use Rattle.points.specs.Functions.{keepsFloor}
+use Rattle.wholes.proofs.PartLaws.{part-whole, part-between, made-whole, floor-made}
+use Rattle.wholes.proofs.magnitudes.downward.Statement.{statement}
+use Rattle.wholes.proofs.magnitudes.downward.Tie as tie
+
+split-requires : tie.Need-split-requires
+split-requires c κs = search needs
+
+enum-told : tie.Need-enum-told
+enum-told c = search needs
+
+enum-known-n : tie.Need-enum-known-n
+enum-known-n c = search needs
+
+returns : tie.Need-returns
+returns c =
+    made-whole binary64 keepsFloor (c .before .before .before .pre) (part-whole (c .before .before .split .ensures) (c .enum-told .given .1))
+
+returns-2 : tie.Need-returns-2
+returns-2 c = floor-made (part-between (c .before .before .before .split .ensures) (c .before .n .given .1))
+
+pub downward-spec : {M : Type 1} → statement M
+downward-spec = tie.close (tie.spec split-requires enum-told enum-known-n returns returns-2)

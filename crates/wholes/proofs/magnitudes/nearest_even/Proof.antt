@@ -1,0 +1,57 @@
+-- `magnitudes::nearest_even` meets its contract: a whole number stays, and between two the nearer is taken, or the even one.
+use borrow.Author.Needs.{needs}
+use Rattle.patterns.specs.Format.{binary64}
+use Rattle.points.specs.Functions.{keepsEven}
+use Rattle.wholes.proofs.PartLaws.{part-whole, part-between, made-whole, even-low, even-middle, odd-middle, even-high}
+use Rattle.wholes.proofs.magnitudes.nearest_even.Statement.{statement}
+use Rattle.wholes.proofs.magnitudes.nearest_even.Tie as tie
+
+split-requires : tie.Need-split-requires
+split-requires c κs = search needs
+
+enum-told : tie.Need-enum-told
+enum-told c = search needs
+
+enum-known-n : tie.Need-enum-known-n
+enum-known-n c = search needs
+
+enum-told-2 : tie.Need-enum-told-2
+enum-told-2 c = search needs
+
+enum-told-3 : tie.Need-enum-told-3
+enum-told-3 c = search needs
+
+returns : tie.Need-returns
+returns c = even-middle (part-between (c .before .before .before .before .before .before .split .ensures) (c .before .before .before .before .n .given .1)) (c .before .enum-told3 .given .1) (c .if1 .taken)
+
+enum-told-4 : tie.Need-enum-told-4
+enum-told-4 c = search needs
+
+returns-2 : tie.Need-returns-2
+returns-2 c =
+    made-whole binary64 keepsEven (c .before .before .before .pre) (part-whole (c .before .before .split .ensures) (c .enum-told .given .1))
+
+returns-3 : tie.Need-returns-3
+returns-3 c = even-low (part-between (c .before .before .before .before .before .split .ensures) (c .before .before .before .n .given .1)) (c .enum-told2 .given .1)
+
+returns-4 : tie.Need-returns-4
+returns-4 c = odd-middle (part-between (c .before .before .before .before .before .before .split .ensures) (c .before .before .before .before .n .given .1)) (c .before .enum-told3 .given .1) (c .if1 .left)
+
+returns-5 : tie.Need-returns-5
+returns-5 c = even-high (part-between (c .before .before .before .before .before .split .ensures) (c .before .before .before .n .given .1)) (c .enum-told4 .given .1)
+
+pub nearest-even-spec : {M : Type 1} → statement M
+nearest-even-spec =
+    tie.close
+    (tie.spec
+    split-requires
+    enum-told
+    enum-known-n
+    enum-told-2
+    enum-told-3
+    returns
+    enum-told-4
+    returns-2
+    returns-3
+    returns-4
+    returns-5)

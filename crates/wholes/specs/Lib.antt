@@ -1,0 +1,3 @@
+-- What the contracts of whole numbers on patterns cite.
+pub mod Enclosure
+pub mod Made

@@ -1,0 +1,73 @@
+#!/usr/bin/env python3
+"""Compares the codecs, which read an interval in one byte order and write the other.
+
+    oracle/byte_orders.py [--ours CMD] [--seed N] [--count N]
+
+CMD gets a codec's name as its last argument, as bare-be-to-le, reads intervals of
+16 or 17 bytes from standard input and writes number, place and answer for each. It
+must answer as document 01 says, and the crate as differences.py lists. The last
+line is 'N passed, M failed'.
+"""
+
+import argparse
+import shlex
+import sys
+
+from compare import answers, driver
+from differences import NAI, ill_pair, unread
+from document import ANSWER, ILL, OPERAND, operand_refusal, operands, refused
+from generate import Generator
+
+
+def turned(interval):
+    """The same interval in the other byte order."""
+    return interval[7::-1] + interval[15:7:-1] + interval[16:]
+
+
+def expected(kind, interval):
+    """Document 01's answer and the crate's, in big endian."""
+    number = operand_refusal(interval)
+    is_nai = kind == 'decorated' and interval[16] == ILL
+    accepted = bytes(2) + (NAI if is_nai else interval)
+    if not number:
+        return accepted, accepted
+    ours = refused(kind, number, 1)
+    return ours, accepted if ill_pair(interval) else unread(len(ours), 1)
+
+
+def checks(kind, intervals, order, command):
+    """Of each interval and side: the input, what was wanted, what was answered."""
+    into, out_of = (turned, bytes) if order == 'le-to-be' else (bytes, turned)
+    given = [into(interval) for interval in intervals]
+    wanted = [expected(kind, interval) for interval in intervals]
+    sides = [(1, driver(f'{kind}-{order}'))]
+    if command:
+        sides.append((0, [*shlex.split(command), f'{kind}-{order}']))
+    for side, asked in sides:
+        for source, pair, found in zip(given, wanted, answers(asked, given, ANSWER[kind])):
+            yield source, pair[side][:2] + out_of(pair[side][2:]), found
+
+
+def main():
+    parser = argparse.ArgumentParser(description='Compares the codecs.')
+    parser.add_argument('--ours', help='the command of the port')
+    parser.add_argument('--seed', type=int, default=1)
+    parser.add_argument('--count', type=int, default=20_000)
+    given = parser.parse_args()
+    passed = failed = 0
+    for kind in OPERAND:
+        requests = Generator(kind, given.seed).requests(given.count)
+        intervals = [operand for request in requests for operand in operands(request)]
+        for order in ('be-to-le', 'le-to-be'):
+            for source, wanted, found in checks(kind, intervals, order, given.ours):
+                if wanted == found:
+                    passed += 1
+                else:
+                    failed += 1
+                    print(f'wrong: {kind}-{order} {source.hex()}: {found.hex()}')
+    print(f'{passed} passed, {failed} failed')
+    sys.exit(1 if failed else 0)
+
+
+if __name__ == '__main__':
+    main()

@@ -1,0 +1,78 @@
+"""Document 01's words on requests: their form, and what is refused.
+
+Written from the document alone, so that it can judge either side's refusals.
+"""
+
+from math import copysign, inf
+from struct import Struct
+
+OPERATIONS = (
+    'neg', 'add', 'sub', 'mul', 'div', 'convex_hull', 'intersection', 'max', 'min',
+    'abs', 'ceil', 'floor', 'round', 'round_ties_even', 'sign', 'trunc', 'overlap')
+NUMBER = {name: number for number, name in enumerate(OPERATIONS, 1)}
+ONE_OPERAND = frozenset(NUMBER[name] for name in (
+    'neg', 'abs', 'ceil', 'floor', 'round', 'round_ties_even', 'sign', 'trunc'))
+
+ILL, TRV, DEF, DAC, COM = DECORATIONS = (0, 4, 8, 12, 16)
+
+# The length of an operand, which is also that of an answer's bytes.
+OPERAND = {'bare': 16, 'decorated': 17}
+# A request is a number and two operands, an answer a number, a place and bytes.
+REQUEST = {kind: 1 + 2 * length for kind, length in OPERAND.items()}
+ANSWER = {kind: 2 + length for kind, length in OPERAND.items()}
+
+ENDS = Struct('>dd')
+
+
+def operands(request):
+    """The bytes of the two operands of a request."""
+    length = len(request) // 2
+    return request[1:1 + length], request[1 + length:]
+
+
+def proper(a, b):
+    """Whether two ends are a proper pair, zeros written as the bytes have them."""
+    return (a <= b and a != inf and b != -inf
+            and (a != 0 or copysign(1, a) < 0)
+            and (b != 0 or copysign(1, b) > 0))
+
+
+def operand_refusal(operand):
+    """The number an operand's bytes are refused with, 0 if they are accepted."""
+    a, b = ENDS.unpack_from(operand)
+    is_proper = proper(a, b)
+    is_empty = a == inf and b == -inf
+    if len(operand) == OPERAND['bare']:
+        return 0 if is_proper or is_empty else 5
+    decoration = operand[16]
+    if decoration not in DECORATIONS:
+        return 4
+    is_nai = a != a and b != b
+    if not (is_proper or is_empty or is_nai):
+        return 5
+    against = (is_proper and decoration == ILL
+               or (a == -inf or b == inf) and decoration == COM
+               or is_empty and decoration != TRV
+               or is_nai and decoration != ILL)
+    return 6 if against else 0
+
+
+def refusal(request):
+    """The number and the place a request is answered with: 0, 0 if accepted."""
+    operation = request[0]
+    if not 1 <= operation <= 17:
+        return 3, 0
+    first, second = operands(request)
+    number = operand_refusal(first)
+    if number:
+        return number, 1
+    if operation not in ONE_OPERAND:
+        number = operand_refusal(second)
+        if number:
+            return number, 2
+    return 0, 0
+
+
+def refused(kind, number, place):
+    """The whole answer to a request that is refused."""
+    return bytes((number, place)) + bytes(OPERAND[kind])
