@@ -2,9 +2,8 @@
 ghost use Rattle.patterns.specs.Format.{binary64};
 ghost use Rattle.meaning.specs.Points.{neg, add, sub, mul, div};
 ghost use Rattle.meaning.specs.Results.{point};
-ghost use Rattle.meaning.specs.Statement.{JudgedDecorated, sound};
+ghost use Rattle.meaning.specs.Statement.{JudgedDecorated, sound, RightDec₁, RightDec₂};
 ghost use Rattle.interval.specs.Conversions.{decPairOf};
-ghost use Rattle.operands.specs.Sorted.{RightDec₁, RightDec₂};
 use crate::bare;
 use arith_ends::divided_decoration;
 use interval::DecInterval;

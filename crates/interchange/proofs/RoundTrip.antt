@@ -21,7 +21,8 @@ use Rattle.interval.proofs.JudgeLaws.{lower-pattern, upper-pattern}
 use Rattle.interval.proofs.AgreeLaws.{agrees-nans, bare-not-nans, only-bare}
 use Rattle.interval.proofs.TidyLaws.{tidied, tidied-agrees}
 use Rattle.interval.proofs.StatementLaws.{sound-ends, sound-agrees}
-use Rattle.interval.proofs.Once.{tidied-once, tidiedDec-once}
+use Rattle.states.proofs.ReadingLaws.{tidied-once}
+use Rattle.interval.proofs.Once.{tidiedDec-once}
 use Rattle.end_bytes.proofs.PlaceLaws.{length-pair}
 use Rattle.end_bytes.proofs.DigitLaws.{Bytes, pair-read, pair-written}
 use Rattle.interchange.specs.Written.{Written, WrittenDec, writeDecorated}

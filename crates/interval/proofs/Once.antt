@@ -3,37 +3,18 @@ use mathlib.Core.Bool.{Bool}
 use mathlib.Core.Path.{_≡_, refl, sym, _∙_, ap}
 use Prim.Native.Nat.{ℕ}
 use Rattle.patterns.specs.Format.{Format}
-use Rattle.meaning.specs.Sets.{Set, SameSet}
-use Rattle.meaning.specs.Pairs.{Pair, setOf}
+use Rattle.meaning.specs.Pairs.{Pair}
 use Rattle.meaning.specs.Decorations.{Decoration}
-use Rattle.meaning.specs.Statement.{Verdict, DecPair, JudgedDecorated, decoratedFive, decoratedSix, decoratedGood}
-use Rattle.meaning.specs.Bytes.{Tidied}
-use Rattle.meaning.proofs.Unique.{canonical-unique}
+use Rattle.meaning.specs.Statement.{DecPair}
+use Rattle.states.proofs.ReadingLaws.{tidied-once}
 use Rattle.interval.specs.Answers.{Answers, affirmed, denied}
 use Rattle.interval.specs.Values.{TidiedDec, tidiedNaI, tidiedInterval, SetDec, setNaI, setInterval, LowerOf, UpperOf, Part, PartOf, isPart, isMissing}
-
-pub judged-decorated-once : (F : Format) (x : DecPair) (v w : Verdict) → JudgedDecorated F x v → JudgedDecorated F x w → v ≡ w
-judged-decorated-once F x v w (decoratedFive n) (decoratedFive m) = refl
-judged-decorated-once F x v w (decoratedFive n) (decoratedSix e a) = absurd (n e)
-judged-decorated-once F x v w (decoratedFive n) (decoratedGood e a) = absurd (n e)
-judged-decorated-once F x v w (decoratedSix e a) (decoratedFive n) = absurd (n e)
-judged-decorated-once F x v w (decoratedSix e a) (decoratedSix f b) = refl
-judged-decorated-once F x v w (decoratedSix e a) (decoratedGood f b) = absurd (a b)
-judged-decorated-once F x v w (decoratedGood e a) (decoratedFive n) = absurd (n e)
-judged-decorated-once F x v w (decoratedGood e a) (decoratedSix f b) = absurd (b a)
-judged-decorated-once F x v w (decoratedGood e a) (decoratedGood f b) = refl
 
 pub answers-once : (P : Type 0) (b c : Bool) → Answers P b → Answers P c → b ≡ c
 answers-once P b c (affirmed p) (affirmed q) = refl
 answers-once P b c (affirmed p) (denied n) = absurd (n p)
 answers-once P b c (denied n) (affirmed p) = absurd (n p)
 answers-once P b c (denied n) (denied m) = refl
-
-same-both : (X Y Z : Set) → SameSet X Y → SameSet X Z → SameSet Y Z
-same-both X Y Z s t = (λ x m. t .0 x (s .1 x m), λ x m. s .0 x (t .1 x m))
-
-pub tidied-once : (F : Format) (x z w : Pair) → Tidied F x z → Tidied F x w → z ≡ w
-tidied-once F x z w s t = canonical-unique F z w (s .canonical) (t .canonical) (same-both (setOf F x) (setOf F z) (setOf F w) (s .same) (t .same))
 
 pub lower-once : (F : Format) (x : Pair) (r s : ℕ) → LowerOf F x r → LowerOf F x s → r ≡ s
 lower-once F x r s p q = p .lower ∙ ap (λ (z : Pair). z .lower) (tidied-once F x (p .tidied) (q .tidied) (p .is) (q .is)) ∙ sym (q .lower)

@@ -11,7 +11,9 @@ use Rattle.interval.specs.Answers.{Answers}
 use Rattle.interval.specs.Conversions.{outcome, decOutcome, boolOutcome, endOutcome, decorationOutcome, partOutcome}
 use Rattle.interval.specs.Values.{TidiedDec, SetDec, LowerOf, UpperOf, PartOf, Common}
 use Rattle.interval.proofs.Codes.{answer-known, decAnswer-known, boolAnswer-known, endAnswer-known, decorationAnswer-known, partAnswer-known}
-use Rattle.interval.proofs.Once.{judged-decorated-once, answers-once, tidied-once, lower-once, upper-once, tidiedDec-once, setDec-once, part-once}
+use Rattle.states.proofs.VerdictLaws.{judged-decorated-once}
+use Rattle.states.proofs.ReadingLaws.{tidied-once}
+use Rattle.interval.proofs.Once.{answers-once, lower-once, upper-once, tidiedDec-once, setDec-once, part-once}
 
 -- One answer satisfies a statement whose answers have the outcomes f.
 abbrev Once : {A B R : Type 0} (f : R → Outcome B) (Judged : A → Verdict → Type 0) (Right : A → B → Type 0) → Type 0

@@ -1,13 +1,10 @@
--- Sound decorated operands, and the right answers for them.
+-- Sound decorated operands.
 use mathlib.Core.Path.{_≡_}
-use mathlib.Core.Logic.{_⊎_}
 use Rattle.patterns.specs.Format.{Format}
-use Rattle.meaning.specs.Pairs.{Pair, NaNs, setOf}
-use Rattle.meaning.specs.Points.{Unary}
-use Rattle.meaning.specs.Results.{Operation, Result₁, Result₂}
+use Rattle.meaning.specs.Pairs.{Pair, setOf}
 use Rattle.meaning.specs.Decorations as meant
-use Rattle.meaning.specs.Decorations.{Ill, lowerOf, settled, Allows₁, Allows₂}
-use Rattle.meaning.specs.Statement.{DecPair, RightDecorated}
+use Rattle.meaning.specs.Decorations.{Ill, lowerOf, settled}
+use Rattle.meaning.specs.Statement.{DecPair}
 use Rattle.interval.specs.Conversions.{decorationOf}
 use Rattle.interval.specs.declared.types.Decoration.{Decoration}
 use Rattle.operands.specs.declared.sound.Operands.{Operands}
@@ -27,12 +24,3 @@ pub data Sorted (IsNaI Bares : Type 0) (lowest : meant.Decoration) : Operands �
 pub record DecoratedBy (F : Format) (z : Pair) (allowed operands : meant.Decoration) (r : DecPair) : Type 0 where
   pub same : r .pair ≡ z
   pub is : r .decoration ≡ settled (setOf F z) (lowerOf allowed operands)
-
--- The right answer of a decorated operation for sound operands.
-abbrev pub RightDec₁ : Format → Unary → (x z : DecPair) → Type 0
-RightDec₁ F op x z = RightDecorated F (NaNs F (x .pair)) (Result₁ op (setOf F (x .pair))) (Allows₁ op (setOf F (x .pair))) (x .decoration) z
-
-abbrev pub RightDec₂ : Format → Operation → (x y z : DecPair) → Type 0
-RightDec₂ F op x y z =
-    RightDecorated F (NaNs F (x .pair) ⊎ NaNs F (y .pair)) (Result₂ op (setOf F (x .pair)) (setOf F (y .pair)))
-    (λ Z. Allows₂ op (setOf F (x .pair)) (setOf F (y .pair))) (lowerOf (x .decoration) (y .decoration)) z

@@ -1,0 +1,2 @@
+-- What the bench program's turns keep.
+pub mod Runs

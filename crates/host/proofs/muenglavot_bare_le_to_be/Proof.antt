@@ -1,0 +1,23 @@
+-- `muenglavot_bare_le_to_be` meets its contract: number and place are small enough to pack.
+use borrow.Author.Needs.{needs}
+use Rattle.patterns.specs.Format.{binary64}
+use Rattle.meaning.specs.Bytes.{bigEndian, littleEndian}
+use Rattle.request_laws.proofs.SmallLaws.{bare-codec-small}
+use Rattle.host.proofs.muenglavot_bare_le_to_be.Statement.{statement}
+use Rattle.host.proofs.muenglavot_bare_le_to_be.Tie as tie
+
+bare-le-to-be-requires : tie.Need-bare-le-to-be-requires
+bare-le-to-be-requires c κs = search needs
+
+packed-requires : tie.Need-packed-requires
+packed-requires c κs = bare-codec-small binary64 littleEndian bigEndian (c .before .before .bare-le-to-be .ensures)
+
+same-length : tie.Need-same-length
+same-length c = search needs
+
+returns : tie.Need-returns
+returns c = search needs
+
+pub muenglavot-bare-le-to-be-spec : {M : Type 1} → statement M
+muenglavot-bare-le-to-be-spec =
+    tie.close (tie.spec bare-le-to-be-requires packed-requires same-length returns)

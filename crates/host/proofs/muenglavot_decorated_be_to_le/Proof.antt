@@ -1,0 +1,23 @@
+-- `muenglavot_decorated_be_to_le` meets its contract: number and place are small enough to pack.
+use borrow.Author.Needs.{needs}
+use Rattle.patterns.specs.Format.{binary64}
+use Rattle.meaning.specs.Bytes.{bigEndian, littleEndian}
+use Rattle.request_laws.proofs.SmallLaws.{decorated-codec-small}
+use Rattle.host.proofs.muenglavot_decorated_be_to_le.Statement.{statement}
+use Rattle.host.proofs.muenglavot_decorated_be_to_le.Tie as tie
+
+decorated-be-to-le-requires : tie.Need-decorated-be-to-le-requires
+decorated-be-to-le-requires c κs = search needs
+
+packed-requires : tie.Need-packed-requires
+packed-requires c κs = decorated-codec-small binary64 bigEndian littleEndian (c .before .before .decorated-be-to-le .ensures)
+
+same-length : tie.Need-same-length
+same-length c = search needs
+
+returns : tie.Need-returns
+returns c = search needs
+
+pub muenglavot-decorated-be-to-le-spec : {M : Type 1} → statement M
+muenglavot-decorated-be-to-le-spec =
+    tie.close (tie.spec decorated-be-to-le-requires packed-requires same-length returns)

@@ -1,0 +1,59 @@
+-- `decorated::finish` meets its contract: an answer is written over the whole output, and a refusal writes nothing.
+use mathlib.Core.Path.{ap}
+use borrow.Author.Needs.{needs}
+use Rattle.request_laws.specs.Calls.{leftBy}
+use Rattle.request.specs.Conversions.{decOutcome}
+use Rattle.dispatch.specs.declared.decorated.DecOutcome.{DecOutcome}
+use Rattle.request.proofs.OutcomeLaws.{left-given}
+use Rattle.request.proofs.decorated.finish.Statement.{statement}
+use Rattle.request.proofs.decorated.finish.Tie as tie
+
+enum-known-outcome : tie.Need-enum-known-outcome
+enum-known-outcome c = c .match .keys1
+
+write-interval-requires : tie.Need-write-interval-requires
+write-interval-requires c κs = search needs
+
+enum-known-outcome-2 : tie.Need-enum-known-outcome-2
+enum-known-outcome-2 c = c .match .keys2
+
+write-state-requires : tie.Need-write-state-requires
+write-state-requires c κs = search needs
+
+enum-known-outcome-3 : tie.Need-enum-known-outcome-3
+enum-known-outcome-3 c = c .match .keys3
+
+same-length : tie.Need-same-length
+same-length c = search needs
+
+returns : tie.Need-returns
+returns c =
+    let told = c .before .before .before .before .before in
+    left-given (told .before .before .before .args .output .now) (ap decOutcome (told .outcome .given .1))
+    (c .before .before .write-interval .ensures)
+
+same-length-2 : tie.Need-same-length-2
+same-length-2 c = search needs
+
+returns-2 : tie.Need-returns-2
+returns-2 c =
+    let told = c .before .before .before .before .before in
+    left-given (told .before .before .before .args .output .now) (ap decOutcome (told .outcome2 .given .1)) (c .before .before .write-state .ensures)
+
+returns-3 : tie.Need-returns-3
+returns-3 c = ap (λ (o : DecOutcome). leftBy (c .before .before .before .before .args .output .now) (decOutcome o)) (c .before .outcome3 .given .1)
+
+pub finish-spec : {M : Type 1} → statement M
+finish-spec =
+    tie.close
+    (tie.spec
+    enum-known-outcome
+    write-interval-requires
+    enum-known-outcome-2
+    write-state-requires
+    enum-known-outcome-3
+    same-length
+    returns
+    same-length-2
+    returns-2
+    returns-3)

@@ -1,0 +1,3 @@
+-- What the contracts of requests cite.
+pub mod Conversions
+pub mod Outcomes

@@ -1,0 +1,69 @@
+-- A chunk of requests has one output, and a run that repeats its first reply is none.
+use mathlib.Core.Path.{_≡_, refl, sym, _∙_, ap, ap₂, subst, subst⁻¹}
+use mathlib.Core.List.{List, _∷_, _++_}
+use Prim.Native.Nat.{ℕ, zero, suc, _*_, _+_, _<_, _≤_}
+use native.Mathlib.Omega.{arith}
+use lib.Dec.{lit<, lit≤}
+use lib.ListN.{length, getD, take, drop, take-append-drop}
+use lib.Seq.{take-add}
+use Rattle.patterns.specs.Format.{binary64}
+use Rattle.meaning.specs.Bytes.{bigEndian}
+use Rattle.meaning.specs.Requests.{zeros, decoratedSize, writeDecorated, DecoratedRequest, unknown}
+use Rattle.cases.specs.Table.{two}
+use Rattle.request_laws.specs.Calls.{Left, Leaves}
+use Rattle.request_laws.specs.Chunk.{requestSize, replySize, part, Replied, Chunk}
+use Rattle.request_laws.proofs.OperationNumbers.{zero-unknown}
+use Rattle.request_laws.proofs.OneOutcome.{decorated-request-once}
+use Rattle.request_laws.proofs.Examples.{decoratedSum, decorated-sum, common}
+
+abbrev reply : Left → List ℕ
+reply l = l .number ∷ l .place ∷ l .after
+
+-- One reply to a request.
+replied-as : {request bytes : List ℕ} → Replied request bytes → (l : Left)
+    → Leaves (DecoratedRequest binary64) request (zeros decoratedSize) l → bytes ≡ reply l
+replied-as {request} h l c = h .is ∙ ap reply (decorated-request-once binary64 request (zeros decoratedSize) (h .left) l (h .called) c)
+
+pub replied-once : {request a b : List ℕ} → Replied request a → Replied request b → a ≡ b
+replied-once h k = replied-as h (k .left) (k .called) ∙ sym (k .is)
+
+-- Lists whose first parts agree agree that far.
+parts-agree : (size count : ℕ) (a b : List ℕ) → ((i : ℕ) → i < count → part size i a ≡ part size i b) → take (size * count) a ≡ take (size * count) b
+parts-agree size zero a b h = let e : size * 0 ≡ 0 = omega arith in rw e
+parts-agree size (suc n) a b h =
+    let e : size * suc n ≡ size * n + size = omega arith in
+    rw e
+    (take-add (size * n) size a ∙ ap₂ _++_ (parts-agree size n a b (λ i l. h i (omega arith))) (h n (omega arith)) ∙ sym (take-add (size * n) size b))
+
+pub chunk-once : (count : ℕ) {input before a b : List ℕ} → Chunk count input before a → Chunk count input before b → a ≡ b
+chunk-once count {a = a} {b = b} h k =
+    sym (take-append-drop (replySize * count) a)
+    ∙ ap₂ _++_ (parts-agree replySize count a b (λ i l. replied-once (h .each i l) (k .each i l))) (h .rest ∙ sym (k .rest))
+    ∙ take-append-drop (replySize * count) b
+
+-- A request that is answered, and one with an operation number that is none.
+abbrev twoRequests : List ℕ
+twoRequests = decoratedSum ++ zeros requestSize
+
+first-reply : {bytes : List ℕ} → Replied (part requestSize 0 twoRequests) bytes → getD bytes 0 0 ≡ 0
+first-reply h =
+    ap (λ (l : List ℕ). getD l 0 0)
+    (replied-as h (record { number = 0; place = 0; after = writeDecorated bigEndian (common two) }) decorated-sum)
+
+second-reply : {bytes : List ℕ} → Replied (part requestSize 1 twoRequests) bytes → getD bytes 0 0 ≡ 3
+second-reply h =
+    ap (λ (l : List ℕ). getD l 0 0)
+    (replied-as h (record { number = 3; place = 0; after = zeros decoratedSize }) (unknown refl refl (zero-unknown refl)))
+
+-- No run that answers the first request and repeats its reply answers every chunk for which there is room.
+pub no-repeating : (run : (count : ℕ) (input before : List ℕ) → List ℕ)
+    → ((count : ℕ) (input before : List ℕ) → requestSize * count ≤ length input → replySize * count ≤ length before
+    → Chunk count input before (run count input before))
+    → ((count : ℕ) (input before : List ℕ) (i : ℕ) → i < count
+    → part replySize i (run count input before) ≡ part replySize 0 (run count input before))
+    → ⊥
+no-repeating run answers repeats =
+    let before = zeros (replySize * 2) in
+    let chunk = answers 2 twoRequests before (lit≤ tt) (lit≤ tt) in
+    let same = ap (λ (l : List ℕ). getD l 0 0) (repeats 2 twoRequests before 1 (lit< tt)) in
+    omega (arith, first-reply (chunk .each 0 (lit< tt)), second-reply (chunk .each 1 (lit< tt)), same)

@@ -1,0 +1,12 @@
+-- Laws of requests and codecs.
+pub mod CalledLaws
+pub mod OperationNumbers
+pub mod SoundLaws
+pub mod OutcomeLaws
+pub mod OneOutcome
+pub mod WrongCalls
+pub mod Examples
+pub mod WrongRequests
+pub mod SecondOperand
+pub mod ChunkLaws
+pub mod SmallLaws

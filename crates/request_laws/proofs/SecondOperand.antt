@@ -1,0 +1,58 @@
+-- "One-operand operations don't read the second operand": what a request leaves does not depend on it.
+use mathlib.Core.Path.{_≡_, sym, _∙_, subst}
+use mathlib.Core.List.{List}
+use Prim.Native.Nat.{ℕ}
+use lib.ListN.{length, getD}
+use Rattle.patterns.specs.Format.{Format}
+use Rattle.meaning.specs.Points.{Unary}
+use Rattle.meaning.specs.Statement.{Outcome, refused, given}
+use Rattle.meaning.specs.Requests.{Asked, unary, operationNumber, Asks, Known, Requested, firstOperand, secondOperand, Called, wrongLength, wrongRoom, unknown, refusedBytes, answered, bareSize, decoratedSize, BareOutcome, DecoratedOutcome, BareRequest, DecoratedRequest}
+use Rattle.request_laws.specs.Calls.{Left, Statement, Leaves}
+use Rattle.request_laws.proofs.OperationNumbers.{asks-once}
+use Rattle.request_laws.proofs.OneOutcome.{bare-request-once, decorated-request-once}
+
+-- Two inputs of one length that ask for the same operation of one operand, on the same first operand.
+pub record SameFirst (size : ℕ) (op : Unary) (input other : List ℕ) : Type 0 where
+  pub asks : Asks input (unary op)
+  pub asksToo : Asks other (unary op)
+  pub first : firstOperand size input ≡ firstOperand size other
+  pub long : length input ≡ length other
+
+known : {input : List ℕ} {op : Unary} → Asks input (unary op) → Known input
+known {op = op} h = record { asked = unary op; asks = h }
+
+module _ {size : ℕ} {op : Unary} {input other : List ℕ} (same : SameFirst size op input other)
+    {Outcomes : Asked → (first second : List ℕ) → Outcome (List ℕ) → Type 0}
+    (unread : (first second third : List ℕ) (o : Outcome (List ℕ)) → Outcomes (unary op) first second o → Outcomes (unary op) first third o) where
+  moved : (o : Outcome (List ℕ)) → Requested size Outcomes input o → Requested size Outcomes other o
+  moved o r =
+      let is = subst (λ (q : Asked). Outcomes q (firstOperand size input) (secondOperand size input) o) (asks-once (r .asks) (same .asks)) (r .outcome) in
+      record {
+        asked = unary op;
+        asks = same .asksToo;
+        outcome =
+            subst (λ (first : List ℕ). Outcomes (unary op) first (secondOperand size other) o) (same .first)
+            (unread (firstOperand size input) (secondOperand size input) (secondOperand size other) o is);
+      }
+
+  call-moved : {inSize outSize : ℕ} {before : List ℕ} {n p : ℕ} {after : List ℕ}
+      → Called inSize outSize Known (Requested size Outcomes) input before n p after
+      → Called inSize outSize Known (Requested size Outcomes) other before n p after
+  call-moved (wrongLength h) = wrongLength (λ e. h (same .long ∙ e))
+  call-moved (wrongRoom h k) = wrongRoom (sym (same .long) ∙ h) k
+  call-moved (unknown h k l) = absurd (l (known (same .asks)))
+  call-moved (refusedBytes {n} {p} h k l r) = refusedBytes (sym (same .long) ∙ h) k (known (same .asksToo)) (moved (refused n p) r)
+  call-moved (answered {out} h k l r) = answered (sym (same .long) ∙ h) k (known (same .asksToo)) (moved (given out) r)
+
+-- Both requests leave the same.
+abbrev pub SecondUnread : (size : ℕ) → Statement → Type 0
+SecondUnread size S =
+    (op : Unary) (input other before : List ℕ) (l m : Left) → SameFirst size op input other
+    → Leaves S input before l → Leaves S other before m → l ≡ m
+
+pub bare-second-unread : (F : Format) → SecondUnread bareSize (BareRequest F)
+bare-second-unread F op input other before l m same h k = bare-request-once F other before l m (call-moved same (λ first second third o r. r) h) k
+
+pub decorated-second-unread : (F : Format) → SecondUnread decoratedSize (DecoratedRequest F)
+decorated-second-unread F op input other before l m same h k =
+    decorated-request-once F other before l m (call-moved same (λ first second third o r. r) h) k

@@ -1,0 +1,70 @@
+-- Every number is at most 6 and every place at most 2, so that a packed result has lost neither.
+use mathlib.Core.Path.{_≡_, _∙_, ap}
+use mathlib.Core.List.{List}
+use Prim.Native.Nat.{ℕ, _≤_, _+_, _*_}
+use native.Mathlib.Omega.{arith}
+use lib.Dec.{lit≤}
+use Rattle.patterns.specs.Format.{Format}
+use Rattle.meaning.specs.Statement.{Outcome, refused, Verdict, wrong, Answered₁, first₁, Answered₂, first₂, second₂}
+use Rattle.meaning.specs.Bytes.{ByteOrder, bigEndian, JudgedBytes, bytesFive, JudgedDecBytes, bytesFour, decBytesFive, decBytesSix}
+use Rattle.meaning.specs.Requests.{Asked, unary, binary, overlap, BareOutcome, DecoratedOutcome, Called, wrongLength, wrongRoom, unknown, refusedBytes, answered, BareRequest, DecoratedRequest, BareCodec, DecoratedCodec}
+use Rattle.request_laws.specs.Calls.{Left, Statement, Packed, Small}
+use Rattle.request_laws.proofs.OneOutcome.{OneLeft}
+
+-- Refusals of a call, and of operands that are judged in turn.
+module _ {inSize outSize : ℕ} {Known : List ℕ → Type 0} {Outcomes : List ℕ → Outcome (List ℕ) → Type 0} {input before : List ℕ} where
+  called-small : ((n p : ℕ) → Outcomes input (refused n p) → Small n p) → {n p : ℕ} {after : List ℕ}
+      → Called inSize outSize Known Outcomes input before n p after → Small n p
+  called-small small (wrongLength _) = record { number≤6 = lit≤ tt; place≤2 = lit≤ tt }
+  called-small small (wrongRoom _ _) = record { number≤6 = lit≤ tt; place≤2 = lit≤ tt }
+  called-small small (unknown _ _ _) = record { number≤6 = lit≤ tt; place≤2 = lit≤ tt }
+  called-small small (refusedBytes {n} {p} _ _ _ o) = small n p o
+  called-small small (answered _ _ _ _) = record { number≤6 = lit≤ tt; place≤2 = lit≤ tt }
+
+module _ {A B : Type 0} {Judged : A → Verdict → Type 0} (bound : (x : A) (n : ℕ) → Judged x (wrong n) → n ≤ 6) where
+  small₁ : {Right : A → B → Type 0} (x : A) {n p : ℕ} → Answered₁ Judged Right x (refused n p) → Small n p
+  small₁ x (first₁ {n} j) = record { number≤6 = bound x n j; place≤2 = lit≤ tt }
+
+  small₂ : {Right : A → A → B → Type 0} (x y : A) {n p : ℕ} → Answered₂ Judged Right x y (refused n p) → Small n p
+  small₂ x y (first₂ {n} j) = record { number≤6 = bound x n j; place≤2 = lit≤ tt }
+  small₂ x y (second₂ {n} _ k) = record { number≤6 = bound y n k; place≤2 = lit≤ tt }
+
+module _ (F : Format) where
+  bytes-small : (o : ByteOrder) (bs : List ℕ) (n : ℕ) → JudgedBytes F o bs (wrong n) → n ≤ 6
+  bytes-small o bs n (bytesFive _) = lit≤ tt
+
+  decBytes-small : (o : ByteOrder) (bs : List ℕ) (n : ℕ) → JudgedDecBytes F o bs (wrong n) → n ≤ 6
+  decBytes-small o bs n (bytesFour _) = lit≤ tt
+  decBytes-small o bs n (decBytesFive _ _ _) = lit≤ tt
+  decBytes-small o bs n (decBytesSix _ _ _ _) = lit≤ tt
+
+  bare-small : (q : Asked) (first second : List ℕ) (n p : ℕ) → BareOutcome F q first second (refused n p) → Small n p
+  bare-small (unary op) first second n p = small₁ (bytes-small bigEndian) first
+  bare-small (binary op) first second n p = small₂ (bytes-small bigEndian) first second
+  bare-small overlap first second n p = small₂ (bytes-small bigEndian) first second
+
+  decorated-small : (q : Asked) (first second : List ℕ) (n p : ℕ) → DecoratedOutcome F q first second (refused n p) → Small n p
+  decorated-small (unary op) first second n p = small₁ (decBytes-small bigEndian) first
+  decorated-small (binary op) first second n p = small₂ (decBytes-small bigEndian) first second
+  decorated-small overlap first second n p = small₂ (decBytes-small bigEndian) first second
+
+  pub bare-request-small : {input before after : List ℕ} {n p : ℕ} → BareRequest F input before n p after → Small n p
+  bare-request-small = called-small (λ n p r. bare-small (r .asked) _ _ n p (r .outcome))
+
+  pub decorated-request-small : {input before after : List ℕ} {n p : ℕ} → DecoratedRequest F input before n p after → Small n p
+  decorated-request-small = called-small (λ n p r. decorated-small (r .asked) _ _ n p (r .outcome))
+
+  pub bare-codec-small : (from to : ByteOrder) {input before after : List ℕ} {n p : ℕ} → BareCodec F from to input before n p after → Small n p
+  bare-codec-small from to {input = input} = called-small (λ n p. small₁ (bytes-small from) input)
+
+  pub decorated-codec-small : (from to : ByteOrder) {input before after : List ℕ} {n p : ℕ} → DecoratedCodec F from to input before n p after → Small n p
+  decorated-codec-small from to {input = input} = called-small (λ n p. small₁ (decBytes-small from) input)
+
+-- A packed result and the output after it are one as well.
+pub packed-once : {S : Statement} → OneLeft S → (input before : List ℕ) {r s : ℕ} {after then : List ℕ}
+    → Packed S input before r after → Packed S input before s then → (r ≡ s) × (after ≡ then)
+packed-once once input before {after = after} {then = then} h k =
+    let same = once input before (record { number = h .number; place = h .place; after = after }) (record { number = k .number; place = k .place; after = then }) (h .called) (k .called) in
+    let numbers : h .number ≡ k .number = ap (λ (l : Left). l .number) same in
+    let places : h .place ≡ k .place = ap (λ (l : Left). l .place) same in
+    (omega (arith, h .is, k .is), ap (λ (l : Left). l .after) same)

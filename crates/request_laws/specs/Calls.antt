@@ -1,0 +1,48 @@
+-- Calls on lent bytes, and what they leave.
+use mathlib.Core.Path.{_≡_}
+use mathlib.Core.List.{List}
+use Prim.Native.Nat.{ℕ, _+_, _*_, _≤_}
+use Rattle.meaning.specs.Statement.{Outcome, refused, given}
+
+-- What a call leaves, as one value.
+pub record Left : Type 0 where
+  pub number : ℕ
+  pub place : ℕ
+  pub after : List ℕ
+
+-- What an outcome leaves: "A refusal leaves the lent output untouched."
+abbrev pub leftBy : (before : List ℕ) → Outcome (List ℕ) → Left
+leftBy before (refused n p) = record { number = n; place = p; after = before }
+leftBy before (given out) = record { number = 0; place = 0; after = out }
+
+-- A condition that is tried before what is next. Its refusal has place 0.
+pub data Tried (P : Type 0) (number : ℕ) (Next : Outcome (List ℕ) → Type 0) : Outcome (List ℕ) → Type 0 where
+  failed : (P → ⊥) → Tried P number Next (refused number 0)
+  passed : {o : Outcome (List ℕ)} → P → Next o → Tried P number Next o
+
+-- The statement of a call: what it leaves for each input and each lent output.
+abbrev pub Statement : Type 1
+Statement = (input before : List ℕ) (number place : ℕ) (after : List ℕ) → Type 0
+
+-- The call leaves this.
+abbrev pub Leaves : Statement → (input before : List ℕ) → Left → Type 0
+Leaves S input before l = S input before (l .number) (l .place) (l .after)
+
+-- A version of a call, and that it meets its statement.
+abbrev pub Call : Type 0
+Call = (input before : List ℕ) → Left
+
+abbrev pub Meets : Statement → Call → Type 0
+Meets S call = (input before : List ℕ) → Leaves S input before (call input before)
+
+-- "each call returns the number plus 256 times the place"
+pub record Packed (S : Statement) (input before : List ℕ) (result : ℕ) (after : List ℕ) : Type 0 where
+  pub number : ℕ
+  pub place : ℕ
+  pub is : result ≡ number + 256 * place
+  pub called : S input before number place after
+
+-- Numbers and places that pack into one number without loss.
+pub record Small (number place : ℕ) : Type 0 where
+  pub number≤6 : number ≤ 6
+  pub place≤2 : place ≤ 2

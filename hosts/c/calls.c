@@ -1,0 +1,208 @@
+/* Every call of the archive: every refusal, the untouched output, and input and output of many lengths. */
+#include "muenglavot.h"
+
+#include <stdio.h>
+#include <stdlib.h>
+#include <string.h>
+
+typedef uint32_t (*Call)(const uint8_t *, size_t, uint8_t *, size_t);
+
+static unsigned passed, failed;
+
+static void expect(int right, const char *what, unsigned detail)
+{
+    if (right) {
+        passed++;
+    } else {
+        failed++;
+        printf("wrong: %s (%u)\n", what, detail);
+    }
+}
+
+/* Runs a call on buffers of exactly the given lengths, so that a step outside is seen by a checker of addresses, and
+ * compares what is returned and the whole output: `after` if it is given, and else what was there before. */
+static void run(Call call, const uint8_t *input, size_t in_len, size_t out_len, uint32_t reply, const uint8_t *after,
+                const char *what)
+{
+    uint8_t *in = malloc(in_len ? in_len : 1), *out = malloc(out_len ? out_len : 1), *before = malloc(out_len ? out_len : 1);
+
+    if (!in || !out || !before) {
+        exit(1);
+    }
+    for (size_t i = 0; i < in_len; i++) {
+        in[i] = input ? input[i] : (uint8_t)(i * 37 + 11);
+    }
+    for (size_t i = 0; i < out_len; i++) {
+        before[i] = (uint8_t)(i * 91 + 7);
+        out[i] = before[i];
+    }
+    uint32_t got = call(in, in_len, out, out_len);
+    expect(got == reply, what, got);
+    expect(memcmp(out, after ? after : before, out_len) == 0, what, (unsigned)out_len);
+    free(in);
+    free(out);
+    free(before);
+}
+
+static void number(uint8_t *bytes, double value)
+{
+    uint64_t bits;
+
+    memcpy(&bits, &value, sizeof bits);
+    for (int i = 0; i < 8; i++) {
+        bytes[i] = (uint8_t)(bits >> (56 - 8 * i));
+    }
+}
+
+static void interval(uint8_t *bytes, double lower, double upper)
+{
+    number(bytes, lower);
+    number(bytes + 8, upper);
+}
+
+static uint32_t refusal(uint32_t kind, uint32_t place)
+{
+    return kind + 256 * place;
+}
+
+/* Lengths 0 to 64 and a few large ones, on both sides: 1 before 2, and nothing is written. */
+static void lengths(Call call, size_t in_size, size_t out_size, const uint8_t *good, const char *what)
+{
+    static const size_t large[] = {65, 127, 128, 255, 256, 1000, 4096, 65536, 1000003};
+
+    for (size_t i = 0; i < 65 + sizeof large / sizeof large[0]; i++) {
+        size_t len = i < 65 ? i : large[i - 65];
+        if (len != in_size) {
+            run(call, NULL, len, out_size, 1, NULL, what);
+            run(call, NULL, len, 3, 1, NULL, what);
+        }
+        if (len != out_size) {
+            run(call, good, in_size, len, 2, NULL, what);
+        }
+    }
+}
+
+static void bare_requests(void)
+{
+    const double inf = 1.0 / 0.0;
+    uint8_t request[MUENGLAVOT_BARE_REQUEST], answer[MUENGLAVOT_BARE];
+
+    request[0] = 2;
+    interval(request + 1, 1, 2);
+    interval(request + 17, 3, 4);
+    interval(answer, 4, 6);
+    run(muenglavot_request_bare, request, sizeof request, sizeof answer, 0, answer, "bare sum");
+    lengths(muenglavot_request_bare, sizeof request, sizeof answer, request, "bare lengths");
+    for (int op = 0; op < 256; op++) {
+        if (op < 1 || op > 17) {
+            request[0] = (uint8_t)op;
+            run(muenglavot_request_bare, request, sizeof request, sizeof answer, 3, NULL, "bare operation number");
+        }
+    }
+    request[0] = 2;
+    interval(request + 1, 0.0, 1);
+    run(muenglavot_request_bare, request, sizeof request, sizeof answer, refusal(5, 1), NULL, "wrong zero");
+    interval(request + 1, 2, 1);
+    run(muenglavot_request_bare, request, sizeof request, sizeof answer, refusal(5, 1), NULL, "first out of order");
+    interval(request + 1, 1, 2);
+    interval(request + 17, inf, inf);
+    run(muenglavot_request_bare, request, sizeof request, sizeof answer, refusal(5, 2), NULL, "second at infinity");
+    request[0] = 1;
+    interval(answer, -2, -1);
+    run(muenglavot_request_bare, request, sizeof request, sizeof answer, 0, answer, "neg reads no second operand");
+    request[0] = 17;
+    interval(request + 17, 2, 3);
+    memset(answer, 0, sizeof answer);
+    answer[0] = 4;
+    run(muenglavot_request_bare, request, sizeof request, sizeof answer, 0, answer, "overlap");
+}
+
+static void decorated_requests(void)
+{
+    const double inf = 1.0 / 0.0, nan = __builtin_nan("");
+    uint8_t request[MUENGLAVOT_DECORATED_REQUEST], answer[MUENGLAVOT_DECORATED];
+
+    request[0] = 3;
+    interval(request + 1, 5, 6);
+    request[17] = 16;
+    interval(request + 18, 1, 2);
+    request[34] = 12;
+    interval(answer, 3, 5);
+    answer[16] = 12;
+    run(muenglavot_request_decorated, request, sizeof request, sizeof answer, 0, answer, "decorated difference");
+    lengths(muenglavot_request_decorated, sizeof request, sizeof answer, request, "decorated lengths");
+    for (unsigned byte = 0; byte < 256; byte++) {
+        if (byte % 4 != 0 || byte > 16) {
+            request[34] = (uint8_t)byte;
+            run(muenglavot_request_decorated, request, sizeof request, sizeof answer, refusal(4, 2), NULL, "second byte");
+        }
+    }
+    request[34] = 12;
+    request[17] = 0;
+    run(muenglavot_request_decorated, request, sizeof request, sizeof answer, refusal(6, 1), NULL, "Ill on an interval");
+    interval(request + 1, 1, inf);
+    request[17] = 16;
+    run(muenglavot_request_decorated, request, sizeof request, sizeof answer, refusal(6, 1), NULL, "Com without a bound");
+    interval(request + 1, nan, 1);
+    request[17] = 4;
+    run(muenglavot_request_decorated, request, sizeof request, sizeof answer, refusal(5, 1), NULL, "one NaN");
+    interval(request + 1, nan, nan);
+    run(muenglavot_request_decorated, request, sizeof request, sizeof answer, refusal(6, 1), NULL, "NaNs without Ill");
+    request[17] = 5;
+    run(muenglavot_request_decorated, request, sizeof request, sizeof answer, refusal(4, 1), NULL, "4 before 5");
+    request[17] = 0;
+    interval(answer, nan, nan);
+    answer[16] = 0;
+    run(muenglavot_request_decorated, request, sizeof request, sizeof answer, 0, answer, "NaI");
+    interval(request + 1, inf, -inf);
+    request[17] = 8;
+    run(muenglavot_request_decorated, request, sizeof request, sizeof answer, refusal(6, 1), NULL, "EMPTY without Trv");
+    request[0] = 18;
+    run(muenglavot_request_decorated, request, sizeof request, sizeof answer, 3, NULL, "3 before 6");
+}
+
+static void reversed(uint8_t *to, const uint8_t *from)
+{
+    for (int i = 0; i < 8; i++) {
+        to[i] = from[7 - i];
+        to[8 + i] = from[15 - i];
+    }
+    to[16] = from[16];
+}
+
+static void codecs(void)
+{
+    const double inf = 1.0 / 0.0;
+    uint8_t big[MUENGLAVOT_DECORATED], little[MUENGLAVOT_DECORATED];
+
+    interval(big, -0.0, 2.5);
+    big[16] = 16;
+    reversed(little, big);
+    run(muenglavot_bare_be_to_le, big, 16, 16, 0, little, "bare to little");
+    run(muenglavot_bare_le_to_be, little, 16, 16, 0, big, "bare to big");
+    run(muenglavot_decorated_be_to_le, big, 17, 17, 0, little, "decorated to little");
+    run(muenglavot_decorated_le_to_be, little, 17, 17, 0, big, "decorated to big");
+    lengths(muenglavot_bare_be_to_le, 16, 16, big, "codec lengths");
+    lengths(muenglavot_bare_le_to_be, 16, 16, little, "codec lengths");
+    lengths(muenglavot_decorated_be_to_le, 17, 17, big, "codec lengths");
+    lengths(muenglavot_decorated_le_to_be, 17, 17, little, "codec lengths");
+    big[16] = 1;
+    run(muenglavot_decorated_be_to_le, big, 17, 17, refusal(4, 1), NULL, "codec byte");
+    interval(big, 3, 2);
+    reversed(little, big);
+    run(muenglavot_bare_be_to_le, big, 16, 16, refusal(5, 1), NULL, "codec order");
+    run(muenglavot_bare_le_to_be, little, 16, 16, refusal(5, 1), NULL, "codec order");
+    interval(big, 1, inf);
+    big[16] = 16;
+    reversed(little, big);
+    run(muenglavot_decorated_le_to_be, little, 17, 17, refusal(6, 1), NULL, "codec Com");
+}
+
+int main(void)
+{
+    bare_requests();
+    decorated_requests();
+    codecs();
+    printf("%u passed, %u failed\n", passed, failed);
+    return failed != 0;
+}

@@ -1,0 +1,83 @@
+//! Proved interval arithmetic on interchange bytes: the six calls of `include/muenglavot.h` in safe Rust.
+//!
+//! An operand's bytes, the operation numbers and the numbers of a refusal are described in that header.
+//! Link the archive that `rt staticlib host` writes, as `-l static=host -L DIR`.
+
+use std::fmt;
+
+/// The bytes of a bare interval.
+pub const BARE: usize = 16;
+/// The bytes of a decorated interval.
+pub const DECORATED: usize = 17;
+/// The bytes of a bare request: an operation number and two operands.
+pub const BARE_REQUEST: usize = 1 + 2 * BARE;
+/// The bytes of a decorated request.
+pub const DECORATED_REQUEST: usize = 1 + 2 * DECORATED;
+
+/// Why a call wrote nothing: document 01's number, and the place of the operand that is wrong, or 0.
+#[derive(Clone, Copy, Debug, PartialEq, Eq)]
+pub struct Refusal {
+    pub number: u8,
+    pub place: u8,
+}
+
+impl fmt::Display for Refusal {
+    fn fmt(&self, f: &mut fmt::Formatter<'_>) -> fmt::Result {
+        write!(f, "refused with number {}, place {}", self.number, self.place)
+    }
+}
+
+impl std::error::Error for Refusal {}
+
+type Call = unsafe extern "C" fn(*const u8, usize, *mut u8, usize) -> u32;
+
+extern "C" {
+    fn muenglavot_request_bare(input: *const u8, in_len: usize, out: *mut u8, out_len: usize) -> u32;
+    fn muenglavot_request_decorated(input: *const u8, in_len: usize, out: *mut u8, out_len: usize) -> u32;
+    fn muenglavot_bare_be_to_le(input: *const u8, in_len: usize, out: *mut u8, out_len: usize) -> u32;
+    fn muenglavot_bare_le_to_be(input: *const u8, in_len: usize, out: *mut u8, out_len: usize) -> u32;
+    fn muenglavot_decorated_be_to_le(input: *const u8, in_len: usize, out: *mut u8, out_len: usize) -> u32;
+    fn muenglavot_decorated_le_to_be(input: *const u8, in_len: usize, out: *mut u8, out_len: usize) -> u32;
+}
+
+fn call(f: Call, input: &[u8], output: &mut [u8]) -> Result<(), Refusal> {
+    // The two slices are valid for their lengths, and Rust's borrows keep them apart during the call.
+    let result = unsafe { f(input.as_ptr(), input.len(), output.as_mut_ptr(), output.len()) };
+    match (result % 256, result / 256) {
+        (0, _) => Ok(()),
+        (number, place) => Err(Refusal {
+            number: number as u8,
+            place: place as u8,
+        }),
+    }
+}
+
+/// One operation on bare intervals: 33 bytes in, 16 out. A refusal leaves `output` as it was.
+pub fn request_bare(input: &[u8], output: &mut [u8]) -> Result<(), Refusal> {
+    call(muenglavot_request_bare, input, output)
+}
+
+/// One operation on decorated intervals: 35 bytes in, 17 out. A refusal leaves `output` as it was.
+pub fn request_decorated(input: &[u8], output: &mut [u8]) -> Result<(), Refusal> {
+    call(muenglavot_request_decorated, input, output)
+}
+
+/// One bare interval from big to little endian, 16 bytes each.
+pub fn bare_be_to_le(input: &[u8], output: &mut [u8]) -> Result<(), Refusal> {
+    call(muenglavot_bare_be_to_le, input, output)
+}
+
+/// One bare interval from little to big endian, 16 bytes each.
+pub fn bare_le_to_be(input: &[u8], output: &mut [u8]) -> Result<(), Refusal> {
+    call(muenglavot_bare_le_to_be, input, output)
+}
+
+/// One decorated interval from big to little endian, 17 bytes each.
+pub fn decorated_be_to_le(input: &[u8], output: &mut [u8]) -> Result<(), Refusal> {
+    call(muenglavot_decorated_be_to_le, input, output)
+}
+
+/// One decorated interval from little to big endian, 17 bytes each.
+pub fn decorated_le_to_be(input: &[u8], output: &mut [u8]) -> Result<(), Refusal> {
+    call(muenglavot_decorated_le_to_be, input, output)
+}
