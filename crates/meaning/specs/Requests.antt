@@ -111,9 +111,9 @@ pub data Called (inSize outSize : ℕ) (Known : List ℕ → Type 0) (Outcomes :
   wrongRoom : length input ≡ inSize → (length before ≡ outSize → ⊥) → Called inSize outSize Known Outcomes input before 2 0 before
   unknown : length input ≡ inSize → length before ≡ outSize → (Known input → ⊥) → Called inSize outSize Known Outcomes input before 3 0 before
   refusedBytes : {n p : ℕ} → length input ≡ inSize → length before ≡ outSize → Known input → Outcomes input (refused n p)
-    → Called inSize outSize Known Outcomes input before n p before
+      → Called inSize outSize Known Outcomes input before n p before
   answered : {out : List ℕ} → length input ≡ inSize → length before ≡ outSize → Known input → Outcomes input (given out)
-    → Called inSize outSize Known Outcomes input before 0 0 out
+      → Called inSize outSize Known Outcomes input before 0 0 out
 
 -- The operation number, and the two operands of a given size behind it.
 pub record Asks (input : List ℕ) (q : Asked) : Type 0 where

@@ -8,11 +8,10 @@ use Rattle.meaning.specs.Statement.{given, Answered₁, right₁, right₂}
 use Rattle.meaning.specs.Bytes.{bigEndian, readPair, writePair, JudgedBytes, bytesGood}
 use Rattle.meaning.specs.Requests.{unary, binary, overlap, BareOutcome}
 use Rattle.interval.specs.Conversions.{pairOf}
-use Rattle.dispatch.specs.Numbers.{RightFor₁}
-use Rattle.request.specs.Outcomes.{OutcomeFor}
+use Rattle.request.specs.Numbers.{RightFor₁, OutcomeFor}
 use Rattle.request.specs.Conversions.{bareOutcome}
-use Rattle.dispatch.specs.Combined.{BareRight₁, BareRight₂, BareState, BareCombined, bareInterval, bareState}
-use Rattle.dispatch.specs.declared.bare.Outcome.{Outcome}
+use Rattle.request.specs.Combined.{BareRight₁, BareRight₂, BareState, BareCombined, bareInterval, bareState}
+use Rattle.request.specs.declared.bare_operations.Outcome.{Outcome}
 
 -- x is read of sound bytes.
 abbrev pub ReadBare : List ℕ → Pair → Type 0

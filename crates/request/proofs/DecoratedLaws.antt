@@ -8,11 +8,10 @@ use Rattle.meaning.specs.Bytes.{bigEndian, JudgedDecBytes, ReadDecorated}
 use Rattle.meaning.specs.Requests.{unary, binary, overlap, writeDecorated, DecoratedOutcome}
 use Rattle.interval.specs.Conversions.{decPairOf}
 use Rattle.request_laws.proofs.SoundLaws.{read-sound}
-use Rattle.dispatch.specs.Numbers.{RightFor₁}
-use Rattle.request.specs.Outcomes.{OutcomeFor}
+use Rattle.request.specs.Numbers.{RightFor₁, OutcomeFor}
 use Rattle.request.specs.Conversions.{decOutcome}
-use Rattle.dispatch.specs.Combined.{DecCombined, decInterval, decState}
-use Rattle.dispatch.specs.declared.decorated.DecOutcome.{DecOutcome}
+use Rattle.request.specs.Combined.{DecCombined, decInterval, decState}
+use Rattle.request.specs.declared.decorated_operations.DecOutcome.{DecOutcome}
 
 -- x is read of sound bytes.
 abbrev pub ReadDec : List ℕ → DecPair → Type 0

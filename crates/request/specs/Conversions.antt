@@ -6,8 +6,8 @@ use Rattle.meaning.specs.Bytes.{bigEndian, writePair}
 use Rattle.meaning.specs.Requests.{writeState, writeDecorated, bareSize, decoratedSize}
 use Prim.Native.Nat.{ℕ}
 use Rattle.interval.specs.Conversions.{pairOf, decPairOf}
-use Rattle.dispatch.specs.declared.bare.Outcome.{Outcome}
-use Rattle.dispatch.specs.declared.decorated.DecOutcome.{DecOutcome}
+use Rattle.request.specs.declared.bare_operations.Outcome.{Outcome}
+use Rattle.request.specs.declared.decorated_operations.DecOutcome.{DecOutcome}
 
 -- The bytes of an outcome.
 abbrev pub bareOutcome : Outcome → stated.Outcome (List ℕ)

@@ -1,3 +1,4 @@
 -- What the contracts of requests cite.
 pub mod Conversions
-pub mod Outcomes
+pub mod Numbers
+pub mod Combined

@@ -3,7 +3,7 @@ use mathlib.Core.Path.{ap}
 use borrow.Author.Needs.{needs}
 use Rattle.request_laws.specs.Calls.{leftBy}
 use Rattle.request.specs.Conversions.{bareOutcome}
-use Rattle.dispatch.specs.declared.bare.Outcome.{Outcome}
+use Rattle.request.specs.declared.bare_operations.Outcome.{Outcome}
 use Rattle.request.proofs.PlaceLaws.{whole}
 use Rattle.request.proofs.OutcomeLaws.{left-given}
 use Rattle.request.proofs.bare.finish.Statement.{statement}

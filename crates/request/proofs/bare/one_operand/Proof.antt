@@ -2,7 +2,7 @@
 use borrow.Author.Needs.{needs}
 use Rattle.meaning.specs.Requests.{unary}
 use Rattle.interval.specs.Conversions.{outcome}
-use Rattle.dispatch.proofs.NumberLaws.{unary-number}
+use Rattle.request.proofs.NumberLaws.{unary-number}
 use Rattle.request.proofs.OutcomeLaws.{in-case, refused₁}
 use Rattle.request.proofs.BareLaws.{bare-sound, bare-transformed}
 use Rattle.request.proofs.bare.one_operand.Statement.{statement}

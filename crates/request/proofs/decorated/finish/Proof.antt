@@ -3,7 +3,7 @@ use mathlib.Core.Path.{ap}
 use borrow.Author.Needs.{needs}
 use Rattle.request_laws.specs.Calls.{leftBy}
 use Rattle.request.specs.Conversions.{decOutcome}
-use Rattle.dispatch.specs.declared.decorated.DecOutcome.{DecOutcome}
+use Rattle.request.specs.declared.decorated_operations.DecOutcome.{DecOutcome}
 use Rattle.request.proofs.OutcomeLaws.{left-given}
 use Rattle.request.proofs.decorated.finish.Statement.{statement}
 use Rattle.request.proofs.decorated.finish.Tie as tie

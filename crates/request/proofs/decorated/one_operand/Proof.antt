@@ -2,7 +2,7 @@
 use borrow.Author.Needs.{needs}
 use Rattle.meaning.specs.Requests.{unary}
 use Rattle.interval.specs.Conversions.{decOutcome}
-use Rattle.dispatch.proofs.NumberLaws.{unary-number}
+use Rattle.request.proofs.NumberLaws.{unary-number}
 use Rattle.request.proofs.OutcomeLaws.{in-case, refused₁}
 use Rattle.request.proofs.DecoratedLaws.{dec-sound, dec-transformed}
 use Rattle.request.proofs.decorated.one_operand.Statement.{statement}
