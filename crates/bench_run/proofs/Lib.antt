@@ -1,5 +1,4 @@
 -- Laws of replies and chunks.
-pub mod NumberLaws
 pub mod PlaceLaws
 pub mod ChunkLaws
 pub mod PieceLaws

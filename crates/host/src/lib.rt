@@ -25,7 +25,7 @@ pub extern "C" fn muenglavot_request_decorated(input: &[u8], output: &mut [u8]) 
 pub extern "C" fn muenglavot_bare_be_to_le(input: &[u8], output: &mut [u8]) -> u32
     ensures { λ r. ⌜ Packed (BareCodec binary64 bigEndian littleEndian) (now (input .entry)) (now (output .entry)) r (now (output .exit)) ⌝ }
 {
-    request::bare_be_to_le(input, output).packed()
+    codecs::bare_be_to_le(input, output).packed()
 }
 
 // One bare interval from little to big endian, 16 bytes each.
@@ -33,7 +33,7 @@ pub extern "C" fn muenglavot_bare_be_to_le(input: &[u8], output: &mut [u8]) -> u
 pub extern "C" fn muenglavot_bare_le_to_be(input: &[u8], output: &mut [u8]) -> u32
     ensures { λ r. ⌜ Packed (BareCodec binary64 littleEndian bigEndian) (now (input .entry)) (now (output .entry)) r (now (output .exit)) ⌝ }
 {
-    request::bare_le_to_be(input, output).packed()
+    codecs::bare_le_to_be(input, output).packed()
 }
 
 // One decorated interval from big to little endian, 17 bytes each.
@@ -41,7 +41,7 @@ pub extern "C" fn muenglavot_bare_le_to_be(input: &[u8], output: &mut [u8]) -> u
 pub extern "C" fn muenglavot_decorated_be_to_le(input: &[u8], output: &mut [u8]) -> u32
     ensures { λ r. ⌜ Packed (DecoratedCodec binary64 bigEndian littleEndian) (now (input .entry)) (now (output .entry)) r (now (output .exit)) ⌝ }
 {
-    request::decorated_be_to_le(input, output).packed()
+    codecs::decorated_be_to_le(input, output).packed()
 }
 
 // One decorated interval from little to big endian, 17 bytes each.
@@ -49,5 +49,5 @@ pub extern "C" fn muenglavot_decorated_be_to_le(input: &[u8], output: &mut [u8])
 pub extern "C" fn muenglavot_decorated_le_to_be(input: &[u8], output: &mut [u8]) -> u32
     ensures { λ r. ⌜ Packed (DecoratedCodec binary64 littleEndian bigEndian) (now (input .entry)) (now (output .entry)) r (now (output .exit)) ⌝ }
 {
-    request::decorated_le_to_be(input, output).packed()
+    codecs::decorated_le_to_be(input, output).packed()
 }

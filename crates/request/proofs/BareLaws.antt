@@ -5,13 +5,15 @@ use Prim.Native.Nat.{ℕ}
 use Rattle.patterns.specs.Format.{binary64}
 use Rattle.meaning.specs.Pairs.{Pair, Bare}
 use Rattle.meaning.specs.Statement.{given, Answered₁, right₁, right₂}
-use Rattle.meaning.specs.Bytes.{bigEndian, readPair, writePair, JudgedBytes, bytesGood}
+use Rattle.meaning.specs.Bytes.{bigEndian, readPair, JudgedBytes, bytesGood}
 use Rattle.meaning.specs.Requests.{unary, binary, overlap, BareOutcome}
 use Rattle.interval.specs.Conversions.{pairOf}
-use Rattle.request.specs.Numbers.{RightFor₁, OutcomeFor}
+use Rattle.interval.specs.declared.types.Interval.{Interval}
+use Rattle.dispatch.specs.Numbers.{RightFor₁}
+use Rattle.request.specs.Outcomes.{OutcomeFor}
 use Rattle.request.specs.Conversions.{bareOutcome}
-use Rattle.request.specs.Combined.{BareRight₁, BareRight₂, BareState, BareCombined, bareInterval, bareState}
-use Rattle.request.specs.declared.bare_operations.Outcome.{Outcome}
+use Rattle.dispatch.specs.Combined.{BareRight₁, BareRight₂, BareState, BareCombined, bareInterval, bareState}
+use Rattle.dispatch.specs.declared.bare.Outcome.{Outcome}
 
 -- x is read of sound bytes.
 abbrev pub ReadBare : List ℕ → Pair → Type 0
@@ -20,17 +22,19 @@ ReadBare bs x = Answered₁ (JudgedBytes binary64 bigEndian) (λ bs z. z ≡ rea
 pub bare-sound : {bs : List ℕ} {x : Pair} → ReadBare bs x → Bare binary64 x
 bare-sound (right₁ (bytesGood h) e) = subst⁻¹ (Bare binary64) e (h .bare)
 
-pub bare-transformed : {n : ℕ} {first : List ℕ} {x z : Pair} → ReadBare first x → RightFor₁ BareRight₁ n x z
-    → (second : List ℕ) → OutcomeFor (BareOutcome binary64) n first second (given (writePair bigEndian z))
-bare-transformed {z = z} (right₁ j e) r second =
+pub bare-transformed : {n : ℕ} {first : List ℕ} {x : Pair} (z : Interval) → ReadBare first x → RightFor₁ BareRight₁ n x (pairOf z)
+    → (second : List ℕ) → OutcomeFor (BareOutcome binary64) n first second (bareOutcome (Outcome.Given z))
+unfolding bareOutcome
+bare-transformed z (right₁ j e) r second =
     record {
       asked = unary (r .op);
       is = r .is;
-      outcome = right₁ j (record { answer = z; right = subst (λ (x : Pair). BareRight₁ (r .op) x z) e (r .right); written = refl });
+      outcome = right₁ j (record { answer = pairOf z; right = subst (λ (x : Pair). BareRight₁ (r .op) x (pairOf z)) e (r .right); written = refl });
     }
 
 pub bare-combined : {n : ℕ} {first second : List ℕ} {x y : Pair} {o : Outcome} → ReadBare first x → ReadBare second y → BareCombined n x y o
     → OutcomeFor (BareOutcome binary64) n first second (bareOutcome o)
+unfolding bareOutcome
 bare-combined (right₁ j e) (right₁ k f) (bareInterval {z} r) =
     record {
       asked = binary (r .op);

@@ -8,8 +8,9 @@ use Rattle.meaning.specs.Results.{Operation}
 use Rattle.meaning.specs.Statement.{Outcome, refused, given, Verdict, Answered₁, first₁, right₁, Answered₂, first₂, second₂}
 use Rattle.meaning.specs.Requests.{Asked, binary, overlap, Known, Requested, firstOperand, secondOperand}
 use Rattle.request_laws.specs.Calls.{Left, leftBy, Tried, passed}
-use Rattle.request.specs.Numbers.{TwoOperands, OutcomeFor}
-use Rattle.request.proofs.NumberLaws.{binary-number}
+use Rattle.dispatch.specs.Numbers.{TwoOperands}
+use Rattle.request.specs.Outcomes.{OutcomeFor}
+use Rattle.dispatch.proofs.NumberLaws.{binary-number}
 
 -- What is said of the code's answer is said of the case that it was found to be.
 pub in-case : {A B C : Type 0} {Judged : A → Verdict → Type 0} {Read : A → B → Type 0} (outcome : C → Outcome B) {x : A} {r s : C}

@@ -6,16 +6,16 @@ use Rattle.meaning.specs.Bytes.{bigEndian, writePair}
 use Rattle.meaning.specs.Requests.{writeState, writeDecorated, bareSize, decoratedSize}
 use Prim.Native.Nat.{ℕ}
 use Rattle.interval.specs.Conversions.{pairOf, decPairOf}
-use Rattle.request.specs.declared.bare_operations.Outcome.{Outcome}
-use Rattle.request.specs.declared.decorated_operations.DecOutcome.{DecOutcome}
+use Rattle.dispatch.specs.declared.bare.Outcome.{Outcome}
+use Rattle.dispatch.specs.declared.decorated.DecOutcome.{DecOutcome}
 
 -- The bytes of an outcome.
-abbrev pub bareOutcome : Outcome → stated.Outcome (List ℕ)
+unfoldable pub bareOutcome : Outcome → stated.Outcome (List ℕ)
 bareOutcome (Outcome.Given z) = given (writePair bigEndian (pairOf z))
 bareOutcome (Outcome.State s) = given (writeState bareSize s)
 bareOutcome (Outcome.Refused n p) = refused n p
 
-abbrev pub decOutcome : DecOutcome → stated.Outcome (List ℕ)
+unfoldable pub decOutcome : DecOutcome → stated.Outcome (List ℕ)
 decOutcome (DecOutcome.Given z) = given (writeDecorated bigEndian (decPairOf z))
 decOutcome (DecOutcome.State s) = given (writeState decoratedSize s)
 decOutcome (DecOutcome.Refused n p) = refused n p

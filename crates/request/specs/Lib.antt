@@ -1,4 +1,3 @@
 -- What the contracts of requests cite.
 pub mod Conversions
-pub mod Numbers
-pub mod Combined
+pub mod Outcomes

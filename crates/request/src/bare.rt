@@ -7,12 +7,15 @@ ghost use Rattle.patterns.specs.Format.{binary64};
 ghost use Rattle.meaning.specs.Requests.{BareOutcome, BareRequest, Requested, Known, bareSize, writeState};
 ghost use Rattle.request_laws.specs.Calls.{Tried, leftBy};
 ghost use Rattle.request.specs.Conversions.{bareOutcome};
-ghost use Rattle.request.specs.Numbers.{OneOperand, TwoOperands, OutcomeFor};
-use crate::bare_operations::Outcome;
-use crate::bare_operations::combine;
-use crate::bare_operations::transform;
-use crate::operations;
+ghost use Rattle.dispatch.specs.Numbers.{OneOperand, TwoOperands};
+ghost use Rattle.request.specs.Outcomes.{OutcomeFor};
+use crate::reply::NO_PLACE;
 use crate::reply::Reply;
+use crate::reply::UNKNOWN_OPERATION;
+use dispatch::bare::Outcome;
+use dispatch::bare::combine;
+use dispatch::bare::transform;
+use dispatch::numbers;
 use end_bytes::ByteOrder;
 use end_bytes::write_ends;
 use interchange::bare::try_from_be_bytes;
@@ -68,16 +71,16 @@ fn answer(input: &[u8]) -> Outcome
 {
     let number = input[0];
     match number {
-        operations::NEG | operations::ABS..=operations::TRUNC => one_operand(
+        numbers::NEG | numbers::ABS..=numbers::TRUNC => one_operand(
             number,
             operand(input, FIRST_AT),
         ),
-        operations::ADD..=operations::MIN | operations::OVERLAP => two_operands(
+        numbers::ADD..=numbers::MIN | numbers::OVERLAP => two_operands(
             number,
             operand(input, FIRST_AT),
             operand(input, SECOND_AT),
         ),
-        _ => Outcome::Refused(operations::UNKNOWN, operations::NO_PLACE),
+        _ => Outcome::Refused(UNKNOWN_OPERATION, NO_PLACE),
     }
 }
 

@@ -9,12 +9,15 @@ ghost use Rattle.interval.specs.Conversions.{decPairOf};
 ghost use Rattle.end_bytes.specs.Conversions.{orderOf};
 ghost use Rattle.request_laws.specs.Calls.{Tried, leftBy};
 ghost use Rattle.request.specs.Conversions.{decOutcome};
-ghost use Rattle.request.specs.Numbers.{OneOperand, TwoOperands, OutcomeFor};
-use crate::decorated_operations::DecOutcome;
-use crate::decorated_operations::combine;
-use crate::decorated_operations::transform;
-use crate::operations;
+ghost use Rattle.dispatch.specs.Numbers.{OneOperand, TwoOperands};
+ghost use Rattle.request.specs.Outcomes.{OutcomeFor};
+use crate::reply::NO_PLACE;
 use crate::reply::Reply;
+use crate::reply::UNKNOWN_OPERATION;
+use dispatch::decorated::DecOutcome;
+use dispatch::decorated::combine;
+use dispatch::decorated::transform;
+use dispatch::numbers;
 use end_bytes::ByteOrder;
 use end_bytes::write_ends;
 use interchange::decorated::try_from_be_bytes;
@@ -74,16 +77,16 @@ fn answer(input: &[u8]) -> DecOutcome
 {
     let number = input[0];
     match number {
-        operations::NEG | operations::ABS..=operations::TRUNC => one_operand(
+        numbers::NEG | numbers::ABS..=numbers::TRUNC => one_operand(
             number,
             operand(input, FIRST_AT),
         ),
-        operations::ADD..=operations::MIN | operations::OVERLAP => two_operands(
+        numbers::ADD..=numbers::MIN | numbers::OVERLAP => two_operands(
             number,
             operand(input, FIRST_AT),
             operand(input, SECOND_AT),
         ),
-        _ => DecOutcome::Refused(operations::UNKNOWN, operations::NO_PLACE),
+        _ => DecOutcome::Refused(UNKNOWN_OPERATION, NO_PLACE),
     }
 }
 

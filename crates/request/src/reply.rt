@@ -3,6 +3,10 @@ ghost use mathlib.Core.Path.{_≡_};
 ghost use Prim.Native.Nat.{_+_, _*_};
 ghost use Rattle.request_laws.specs.Calls.{Small};
 
+// The refusal of an operation number that is none, which has no place.
+pub const UNKNOWN_OPERATION: u32 = 3;
+
+pub const NO_PLACE: u32 = 0;
 // The weight of the place where number and place are one number.
 const PLACE: u32 = 256;
 

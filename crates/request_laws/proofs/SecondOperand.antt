@@ -7,7 +7,7 @@ use Rattle.patterns.specs.Format.{Format}
 use Rattle.meaning.specs.Points.{Unary}
 use Rattle.meaning.specs.Statement.{Outcome, refused, given}
 use Rattle.meaning.specs.Requests.{Asked, unary, operationNumber, Asks, Known, Requested, firstOperand, secondOperand, Called, wrongLength, wrongRoom, unknown, refusedBytes, answered, bareSize, decoratedSize, BareOutcome, DecoratedOutcome, BareRequest, DecoratedRequest}
-use Rattle.request_laws.specs.Calls.{Left, Statement, Leaves}
+use Rattle.request_laws.specs.Calls.{Left, Statement, Leaves, Call, Meets}
 use Rattle.request_laws.proofs.OperationNumbers.{asks-once}
 use Rattle.request_laws.proofs.OneOutcome.{bare-request-once, decorated-request-once}
 
@@ -56,3 +56,9 @@ bare-second-unread F op input other before l m same h k = bare-request-once F ot
 pub decorated-second-unread : (F : Format) → SecondUnread decoratedSize (DecoratedRequest F)
 decorated-second-unread F op input other before l m same h k =
     decorated-request-once F other before l m (call-moved same (λ first second third o r. r) h) k
+
+-- So a version that meets the statement leaves the same whatever the second operand is.
+pub no-second-read : {size : ℕ} {S : Statement} → SecondUnread size S → (call : Call) → Meets S call → (op : Unary) (input other before : List ℕ)
+    → SameFirst size op input other → call input before ≡ call other before
+no-second-read unread call meets op input other before same =
+    unread op input other before (call input before) (call other before) same (meets input before) (meets other before)

@@ -5,9 +5,10 @@ use Prim.Native.Nat.{ℕ}
 use native.Mathlib.Omega.{arith}
 use borrow.Author.Needs.{needs}
 use lib.ListN.{length}
+use Rattle.patterns.specs.Format.{binary64}
 use Rattle.meaning.specs.Requests.{zeros, decoratedSize}
+use Rattle.request_laws.proofs.SmallLaws.{decorated-request-small}
 use Rattle.bench_run.proofs.PlaceLaws.{copied-over}
-use Rattle.bench_run.proofs.NumberLaws.{request-small}
 use Rattle.bench_run.proofs.replies.reply.Statement.{statement}
 use Rattle.bench_run.proofs.replies.reply.Tie as tie
 
@@ -18,13 +19,13 @@ request-decorated-requires : tie.Need-request-decorated-requires
 request-decorated-requires c κs = search needs
 
 cast-reply : tie.Need-cast-reply
-cast-reply c = omega (arith, request-small (c .before .before .request-decorated .ensures) .numberSmall)
+cast-reply c = omega (arith, decorated-request-small binary64 (c .before .before .request-decorated .ensures) .number≤6)
 
 array-write-reply : tie.Need-array-write-reply
 array-write-reply c = search needs
 
 cast-reply-2 : tie.Need-cast-reply-2
-cast-reply-2 c = omega (arith, request-small (c .before .before .before .request-decorated .ensures) .placeSmall)
+cast-reply-2 c = omega (arith, decorated-request-small binary64 (c .before .before .before .request-decorated .ensures) .place≤2)
 
 array-write-reply-2 : tie.Need-array-write-reply-2
 array-write-reply-2 c = search needs

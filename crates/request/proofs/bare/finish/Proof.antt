@@ -3,7 +3,7 @@ use mathlib.Core.Path.{ap}
 use borrow.Author.Needs.{needs}
 use Rattle.request_laws.specs.Calls.{leftBy}
 use Rattle.request.specs.Conversions.{bareOutcome}
-use Rattle.request.specs.declared.bare_operations.Outcome.{Outcome}
+use Rattle.dispatch.specs.declared.bare.Outcome.{Outcome}
 use Rattle.request.proofs.PlaceLaws.{whole}
 use Rattle.request.proofs.OutcomeLaws.{left-given}
 use Rattle.request.proofs.bare.finish.Statement.{statement}
@@ -28,6 +28,7 @@ same-length : tie.Need-same-length
 same-length c = search needs
 
 returns : tie.Need-returns
+unfolding bareOutcome
 returns c =
     let told = c .before .before .before .before .before in
     left-given (told .before .before .before .args .output .now) (ap bareOutcome (told .outcome .given .1))
@@ -37,11 +38,13 @@ same-length-2 : tie.Need-same-length-2
 same-length-2 c = search needs
 
 returns-2 : tie.Need-returns-2
+unfolding bareOutcome
 returns-2 c =
     let told = c .before .before .before .before .before in
     left-given (told .before .before .before .args .output .now) (ap bareOutcome (told .outcome2 .given .1)) (c .before .before .write-state .ensures)
 
 returns-3 : tie.Need-returns-3
+unfolding bareOutcome
 returns-3 c = ap (λ (o : Outcome). leftBy (c .before .before .before .before .args .output .now) (bareOutcome o)) (c .before .outcome3 .given .1)
 
 pub finish-spec : {M : Type 1} → statement M

@@ -2,7 +2,8 @@
 use borrow.Author.Needs.{needs}
 use Rattle.meaning.specs.Requests.{unary}
 use Rattle.interval.specs.Conversions.{outcome}
-use Rattle.request.proofs.NumberLaws.{unary-number}
+use Rattle.dispatch.proofs.NumberLaws.{unary-number}
+use Rattle.request.specs.Conversions.{bareOutcome}
 use Rattle.request.proofs.OutcomeLaws.{in-case, refused₁}
 use Rattle.request.proofs.BareLaws.{bare-sound, bare-transformed}
 use Rattle.request.proofs.bare.one_operand.Statement.{statement}
@@ -24,9 +25,10 @@ enum-known-n c = c .match .keys2
 
 returns : tie.Need-returns
 returns c =
-    bare-transformed (in-case outcome (c .before .before .before .before .try-from-be-bytes .ensures) (c .before .before .x .given .1)) (c .transform .ensures)
+    bare-transformed (c .transform .result) (in-case outcome (c .before .before .before .before .try-from-be-bytes .ensures) (c .before .before .x .given .1)) (c .transform .ensures)
 
 returns-2 : tie.Need-returns-2
+unfolding bareOutcome
 returns-2 c =
     let called = c .before .before .before in
     let u = unary-number (called .before .pre) in

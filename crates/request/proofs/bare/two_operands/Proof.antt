@@ -1,6 +1,7 @@
 -- `bare::two_operands` meets its contract: the first operand is judged before the second.
 use borrow.Author.Needs.{needs}
 use Rattle.interval.specs.Conversions.{outcome}
+use Rattle.request.specs.Conversions.{bareOutcome}
 use Rattle.request.proofs.OutcomeLaws.{in-case, refused-first, refused-second, of-two}
 use Rattle.request.proofs.BareLaws.{bare-sound, bare-combined}
 use Rattle.request.proofs.bare.two_operands.Statement.{statement}
@@ -41,6 +42,7 @@ returns c =
     (in-case outcome (second .try-from-be-bytes2 .ensures) (c .before .before .y .given .1)) (c .combine .ensures)
 
 returns-2 : tie.Need-returns-2
+unfolding bareOutcome
 returns-2 c =
     let second = c .before .before .before in
     let first = second .before .before .before .before in
@@ -49,6 +51,7 @@ returns-2 c =
     of-two (first .before .pre) (λ op. refused-second x y) (refused-second x y)
 
 returns-3 : tie.Need-returns-3
+unfolding bareOutcome
 returns-3 c =
     let first = c .before .before .before in
     let x = in-case outcome (first .try-from-be-bytes .ensures) (c .before .n2 .given .1) in

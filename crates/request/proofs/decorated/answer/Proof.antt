@@ -5,6 +5,7 @@ use native.Mathlib.Omega.{arith}
 use borrow.Author.Needs.{needs}
 use Rattle.request_laws.specs.Calls.{failed}
 use Rattle.request_laws.proofs.OperationNumbers.{zero-unknown, large-unknown}
+use Rattle.request.specs.Conversions.{decOutcome}
 use Rattle.request.proofs.OutcomeLaws.{requested}
 use Rattle.request.proofs.decorated.answer.Statement.{statement}
 use Rattle.request.proofs.decorated.answer.Tie as tie
@@ -30,9 +31,11 @@ one-operand-requires c κs =
     ⊎-elim (λ w. inl (w .keys1)) (λ w. inr (omega (arith, w .2 .left, w .3 .taken))) (c .before .match .came)
 
 returns : tie.Need-returns
+unfolding decOutcome
 returns c = failed (zero-unknown (omega (arith, c .if1 .taken)))
 
 returns-2 : tie.Need-returns-2
+unfolding decOutcome
 returns-2 c = failed (large-unknown (omega (arith, c .if3 .left, c .before .before .before .match .rest .1)))
 
 returns-3 : tie.Need-returns-3

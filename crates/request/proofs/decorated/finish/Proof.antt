@@ -3,7 +3,7 @@ use mathlib.Core.Path.{ap}
 use borrow.Author.Needs.{needs}
 use Rattle.request_laws.specs.Calls.{leftBy}
 use Rattle.request.specs.Conversions.{decOutcome}
-use Rattle.request.specs.declared.decorated_operations.DecOutcome.{DecOutcome}
+use Rattle.dispatch.specs.declared.decorated.DecOutcome.{DecOutcome}
 use Rattle.request.proofs.OutcomeLaws.{left-given}
 use Rattle.request.proofs.decorated.finish.Statement.{statement}
 use Rattle.request.proofs.decorated.finish.Tie as tie
@@ -27,6 +27,7 @@ same-length : tie.Need-same-length
 same-length c = search needs
 
 returns : tie.Need-returns
+unfolding decOutcome
 returns c =
     let told = c .before .before .before .before .before in
     left-given (told .before .before .before .args .output .now) (ap decOutcome (told .outcome .given .1))
@@ -36,11 +37,13 @@ same-length-2 : tie.Need-same-length-2
 same-length-2 c = search needs
 
 returns-2 : tie.Need-returns-2
+unfolding decOutcome
 returns-2 c =
     let told = c .before .before .before .before .before in
     left-given (told .before .before .before .args .output .now) (ap decOutcome (told .outcome2 .given .1)) (c .before .before .write-state .ensures)
 
 returns-3 : tie.Need-returns-3
+unfolding decOutcome
 returns-3 c = ap (λ (o : DecOutcome). leftBy (c .before .before .before .before .args .output .now) (decOutcome o)) (c .before .outcome3 .given .1)
 
 pub finish-spec : {M : Type 1} → statement M

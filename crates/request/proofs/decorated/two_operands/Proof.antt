@@ -1,6 +1,7 @@
 -- `decorated::two_operands` meets its contract: the first operand is judged before the second.
 use borrow.Author.Needs.{needs}
-use Rattle.interval.specs.Conversions.{decOutcome}
+use Rattle.interval.specs.Conversions as read
+use Rattle.request.specs.Conversions.{decOutcome}
 use Rattle.request.proofs.OutcomeLaws.{in-case, refused-first, refused-second, of-two}
 use Rattle.request.proofs.DecoratedLaws.{dec-sound, dec-combined}
 use Rattle.request.proofs.decorated.two_operands.Statement.{statement}
@@ -23,8 +24,8 @@ combine-requires c κs =
     let second = c .before .before .before in
     let first = second .before .before .before .before in (
       first .before .pre,
-      dec-sound (in-case decOutcome (first .try-from-be-bytes .ensures) (second .before .before .x .given .1)),
-      dec-sound (in-case decOutcome (second .try-from-be-bytes2 .ensures) (c .before .y .given .1)),
+      dec-sound (in-case read.decOutcome (first .try-from-be-bytes .ensures) (second .before .before .x .given .1)),
+      dec-sound (in-case read.decOutcome (second .try-from-be-bytes2 .ensures) (c .before .y .given .1)),
     )
 
 enum-known-n : tie.Need-enum-known-n
@@ -37,21 +38,23 @@ returns : tie.Need-returns
 returns c =
     let second = c .before .before .before .before in
     let first = second .before .before .before .before in
-    dec-combined (in-case decOutcome (first .try-from-be-bytes .ensures) (second .before .before .x .given .1))
-    (in-case decOutcome (second .try-from-be-bytes2 .ensures) (c .before .before .y .given .1)) (c .combine .ensures)
+    dec-combined (in-case read.decOutcome (first .try-from-be-bytes .ensures) (second .before .before .x .given .1))
+    (in-case read.decOutcome (second .try-from-be-bytes2 .ensures) (c .before .before .y .given .1)) (c .combine .ensures)
 
 returns-2 : tie.Need-returns-2
+unfolding decOutcome
 returns-2 c =
     let second = c .before .before .before in
     let first = second .before .before .before .before in
-    let x = in-case decOutcome (first .try-from-be-bytes .ensures) (second .before .before .x .given .1) in
-    let y = in-case decOutcome (second .try-from-be-bytes2 .ensures) (c .before .n .given .1) in
+    let x = in-case read.decOutcome (first .try-from-be-bytes .ensures) (second .before .before .x .given .1) in
+    let y = in-case read.decOutcome (second .try-from-be-bytes2 .ensures) (c .before .n .given .1) in
     of-two (first .before .pre) (λ op. refused-second x y) (refused-second x y)
 
 returns-3 : tie.Need-returns-3
+unfolding decOutcome
 returns-3 c =
     let first = c .before .before .before in
-    let x = in-case decOutcome (first .try-from-be-bytes .ensures) (c .before .n2 .given .1) in
+    let x = in-case read.decOutcome (first .try-from-be-bytes .ensures) (c .before .n2 .given .1) in
     of-two (first .before .pre) (λ op. refused-first x) (refused-first x)
 
 pub two-operands-spec : {M : Type 1} → statement M

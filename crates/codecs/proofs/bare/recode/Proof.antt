@@ -1,0 +1,75 @@
+-- `bare::recode` meets its contract: the lengths are tried first, and what is read is written in the other order.
+use mathlib.Core.Path.{_∙_, ap, subst⁻¹}
+use native.Mathlib.Nat.{le-of-eq}
+use borrow.Author.Needs.{needs}
+use lib.Seq.{take-all}
+use Rattle.patterns.specs.Format.{binary64}
+use Rattle.meaning.specs.Bytes.{writePair}
+use Rattle.meaning.specs.Requests.{wrongLength, wrongRoom, BareCodec}
+use Rattle.interval.specs.Conversions.{outcome}
+use Rattle.end_bytes.specs.Conversions.{orderOf}
+use Rattle.request.proofs.PlaceLaws.{whole}
+use Rattle.request.proofs.OutcomeLaws.{in-case}
+use Rattle.codecs.proofs.CodecLaws.{recoded, not-recoded}
+use Rattle.codecs.proofs.bare.recode.Statement.{statement}
+use Rattle.codecs.proofs.bare.recode.Tie as tie
+
+returns : tie.Need-returns
+returns c = wrongLength (c .if1 .taken)
+
+returns-2 : tie.Need-returns-2
+returns-2 c = wrongRoom (c .before .if1 .left) (c .if2 .taken)
+
+operand-requires : tie.Need-operand-requires
+operand-requires c κs = search needs
+
+read-requires : tie.Need-read-requires
+read-requires c κs = tt
+
+enum-known-x : tie.Need-enum-known-x
+enum-known-x c = c .match .keys1
+
+write-ends-requires : tie.Need-write-ends-requires
+write-ends-requires c κs = search needs
+
+enum-known-number : tie.Need-enum-known-number
+enum-known-number c = c .match .keys2
+
+same-length : tie.Need-same-length
+same-length c = search needs
+
+returns-3 : tie.Need-returns-3
+returns-3 c =
+    let told = c .before .before .before .before .before in
+    let read = told .before .before in
+    let taken = read .before in
+    let long = taken .before .before .if1 .left in
+    let a = taken .before .before .before .before .before .args in
+    subst⁻¹ (BareCodec binary64 (orderOf (a .from)) (orderOf (a .to)) (a .input .now) (a .output .now) 0 0)
+    (whole 16 (a .output .now) (c .before .before .write-ends .ensures) (taken .before .if2 .left))
+    (recoded (taken .operand .ensures ∙ take-all 16 (a .input .now) (le-of-eq long)) long (taken .before .if2 .left)
+    (ap (writePair (orderOf (a .to)))) (in-case outcome (read .read .ensures) (told .x .given .1)))
+
+returns-4 : tie.Need-returns-4
+returns-4 c =
+    let read = c .before .before .before in
+    let taken = read .before in
+    let long = taken .before .before .if1 .left in
+    let a = taken .before .before .before .before .before .args in
+    not-recoded (taken .operand .ensures ∙ take-all 16 (a .input .now) (le-of-eq long)) long (taken .before .if2 .left)
+    (in-case outcome (read .read .ensures) (c .before .number .given .1))
+
+pub recode-spec : {M : Type 1} → statement M
+recode-spec =
+    tie.close
+    (tie.spec
+    returns
+    returns-2
+    operand-requires
+    read-requires
+    enum-known-x
+    write-ends-requires
+    enum-known-number
+    same-length
+    returns-3
+    returns-4)

@@ -1,0 +1,2 @@
+-- Laws of operation numbers.
+pub mod NumberLaws

@@ -1,0 +1,3 @@
+-- What the contracts of operations by number cite.
+pub mod Numbers
+pub mod Combined
