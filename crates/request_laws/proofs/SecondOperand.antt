@@ -58,7 +58,7 @@ decorated-second-unread F op input other before l m same h k =
     decorated-request-once F other before l m (call-moved same (λ first second third o r. r) h) k
 
 -- So a version that meets the statement leaves the same whatever the second operand is.
-pub no-second-read : {size : ℕ} {S : Statement} → SecondUnread size S → (call : Call) → Meets S call → (op : Unary) (input other before : List ℕ)
+pub no-second-read : {size : ℕ} (S : Statement) → SecondUnread size S → (call : Call) → Meets S call → (op : Unary) (input other before : List ℕ)
     → SameFirst size op input other → call input before ≡ call other before
-no-second-read unread call meets op input other before same =
+no-second-read S unread call meets op input other before same =
     unread op input other before (call input before) (call other before) same (meets input before) (meets other before)
