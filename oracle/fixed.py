@@ -1,5 +1,5 @@
 #!/usr/bin/env python3
-"""Makes the fixed list: fixed.requests and fixed.answers beside this file.
+"""Makes the fixed list: the stored input and output of the bench program.
 
 From a long run of the generator it takes one request for each situation that
 arises, then others from the start, up to the size. An answer is the crate's where
@@ -65,9 +65,9 @@ def main():
         if verdict is None:
             stop(f'the crate and the reference differ on {requests[at].hex()}')
         kept.append(crate[at] if verdict == 'equal' else ours)
-    here = Path(__file__).resolve().parent
-    (here / 'fixed.requests').write_bytes(b''.join(requests[at] for at in places))
-    (here / 'fixed.answers').write_bytes(b''.join(kept))
+    bench = Path(__file__).resolve().parent.parent / 'crates' / 'bench'
+    (bench / 'stdin').write_bytes(b''.join(requests[at] for at in places))
+    (bench / 'stdout').write_bytes(b''.join(kept))
     print(f'{len(places)} requests')
 
 

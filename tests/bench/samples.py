@@ -79,5 +79,5 @@ def judged(data):
 
 def fixed():
     """The fixed list: its requests and their replies."""
-    with open('oracle/fixed.requests', 'rb') as requests, open('oracle/fixed.answers', 'rb') as answers:
+    with open('crates/bench/stdin', 'rb') as requests, open('crates/bench/stdout', 'rb') as answers:
         return requests.read(), answers.read()
