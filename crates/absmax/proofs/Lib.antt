@@ -2,4 +2,3 @@
 pub mod Absolute
 pub mod Classes
 pub mod Extremes
-pub mod OneAnswer

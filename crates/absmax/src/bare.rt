@@ -1,4 +1,4 @@
-// The operations on bare intervals that were judged already.
+// The operations, by classes and ends.
 ghost use Rattle.patterns.specs.Format.{binary64};
 ghost use Rattle.meaning.specs.Pairs.{Proper, Bare, setOf};
 ghost use Rattle.meaning.specs.Points.{abs, max, min};

@@ -6,7 +6,7 @@ ghost use lib.ListN.{length};
 ghost use Rattle.meaning.specs.Requests.{zeros, decoratedSize};
 ghost use Rattle.request_laws.specs.Chunk.{requestSize, Replied};
 ghost use Rattle.bench_run.specs.Limit.{tooMany, tooShort};
-use request::request_decorated;
+use decorated_request::request_decorated;
 
 // The bytes of a request.
 pub const REQUEST: usize = 35;

@@ -5,7 +5,7 @@ use Prim.Native.Nat.{ℕ}
 use lib.ListN.{length}
 use Rattle.meaning.specs.Statement.{Outcome, refused, given, Verdict, Answered₁, right₁}
 use Rattle.meaning.specs.Requests.{Called, refusedBytes, answered}
-use Rattle.request.proofs.OutcomeLaws.{refused₁}
+use Rattle.request_laws.proofs.ReadLaws.{refused₁}
 
 module _ {B : Type 0} {size : ℕ} {Judged : List ℕ → Verdict → Type 0} {Read : List ℕ → B → Type 0} {bytes input before : List ℕ}
     (same : bytes ≡ input) (long : length input ≡ size) (room : length before ≡ size) where

@@ -6,16 +6,16 @@ ghost use Rattle.meaning.specs.Bytes.{bigEndian, littleEndian, readPair, Judged
 ghost use Rattle.meaning.specs.Requests.{BareCodec};
 ghost use Rattle.interval.specs.Conversions.{outcome};
 ghost use Rattle.end_bytes.specs.Conversions.{orderOf};
+use calls::BARE;
+use calls::Reply;
+use calls::bare_at;
+use calls::write_bare;
 use end_bytes::ByteOrder;
-use end_bytes::write_ends;
 use interchange::bare::try_from_be_bytes;
 use interchange::bare::try_from_le_bytes;
 use interval::Answer;
-use request::Reply;
-use request::bare::INTERVAL;
-use request::bare::operand;
 
-fn read(bytes: [u8; INTERVAL], order: ByteOrder) -> Answer
+fn read(bytes: [u8; BARE], order: ByteOrder) -> Answer
     ensures { λ r. ⌜ Answered₁ (JudgedBytes binary64 (orderOf order)) (λ bs z. z ≡ readPair (orderOf order) bs) bytes (outcome r) ⌝ }
 {
     match order {
@@ -27,15 +27,15 @@ fn read(bytes: [u8; INTERVAL], order: ByteOrder) -> Answer
 fn recode(input: &[u8], output: &mut [u8], from: ByteOrder, to: ByteOrder) -> Reply
     ensures { λ r. ⌜ BareCodec binary64 (orderOf from) (orderOf to) (now (input .entry)) (now (output .entry)) (r .number) (r .place) (now (output .exit)) ⌝ }
 {
-    if input.len() != INTERVAL {
+    if input.len() != BARE {
         return Reply::WRONG_LENGTH;
     }
-    if output.len() != INTERVAL {
+    if output.len() != BARE {
         return Reply::WRONG_ROOM;
     }
-    match read(operand(input, 0), from) {
+    match read(bare_at(input, 0), from) {
         Answer::Given(x) => {
-            write_ends(output, x, to);
+            write_bare(x, to, output);
             Reply::ACCEPTED
         }
         Answer::Refused(number, place) => Reply { number, place },

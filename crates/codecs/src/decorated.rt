@@ -5,16 +5,16 @@ ghost use Rattle.meaning.specs.Bytes.{bigEndian, littleEndian, JudgedDecBytes, 
 ghost use Rattle.meaning.specs.Requests.{DecoratedCodec};
 ghost use Rattle.interval.specs.Conversions.{decOutcome};
 ghost use Rattle.end_bytes.specs.Conversions.{orderOf};
+use calls::DECORATED;
+use calls::Reply;
+use calls::decorated_at;
+use calls::write_decorated;
 use end_bytes::ByteOrder;
 use interchange::decorated::try_from_be_bytes;
 use interchange::decorated::try_from_le_bytes;
 use interval::DecAnswer;
-use request::Reply;
-use request::decorated::INTERVAL;
-use request::decorated::operand;
-use request::decorated::write_interval;
 
-fn read(bytes: [u8; INTERVAL], order: ByteOrder) -> DecAnswer
+fn read(bytes: [u8; DECORATED], order: ByteOrder) -> DecAnswer
     ensures { λ r. ⌜ Answered₁ (JudgedDecBytes binary64 (orderOf order)) (ReadDecorated binary64 (orderOf order)) bytes (decOutcome r) ⌝ }
 {
     match order {
@@ -26,15 +26,15 @@ fn read(bytes: [u8; INTERVAL], order: ByteOrder) -> DecAnswer
 fn recode(input: &[u8], output: &mut [u8], from: ByteOrder, to: ByteOrder) -> Reply
     ensures { λ r. ⌜ DecoratedCodec binary64 (orderOf from) (orderOf to) (now (input .entry)) (now (output .entry)) (r .number) (r .place) (now (output .exit)) ⌝ }
 {
-    if input.len() != INTERVAL {
+    if input.len() != DECORATED {
         return Reply::WRONG_LENGTH;
     }
-    if output.len() != INTERVAL {
+    if output.len() != DECORATED {
         return Reply::WRONG_ROOM;
     }
-    match read(operand(input, 0), from) {
+    match read(decorated_at(input, 0), from) {
         DecAnswer::Given(x) => {
-            write_interval(x, to, output);
+            write_decorated(x, to, output);
             Reply::ACCEPTED
         }
         DecAnswer::Refused(number, place) => Reply { number, place },

@@ -9,7 +9,7 @@ ghost use Rattle.request_laws.specs.Calls.{Packed};
 pub extern "C" fn muenglavot_request_bare(input: &[u8], output: &mut [u8]) -> u32
     ensures { λ r. ⌜ Packed (BareRequest binary64) (now (input .entry)) (now (output .entry)) r (now (output .exit)) ⌝ }
 {
-    request::request_bare(input, output).packed()
+    bare_request::request_bare(input, output).packed()
 }
 
 // One operation on decorated intervals: 35 bytes in, 17 out.
@@ -17,7 +17,7 @@ pub extern "C" fn muenglavot_request_bare(input: &[u8], output: &mut [u8]) -> u3
 pub extern "C" fn muenglavot_request_decorated(input: &[u8], output: &mut [u8]) -> u32
     ensures { λ r. ⌜ Packed (DecoratedRequest binary64) (now (input .entry)) (now (output .entry)) r (now (output .exit)) ⌝ }
 {
-    request::request_decorated(input, output).packed()
+    decorated_request::request_decorated(input, output).packed()
 }
 
 // One bare interval from big to little endian, 16 bytes each.

@@ -6,3 +6,4 @@ pub mod PairLaws
 pub mod HullLaws
 pub mod PatternHull
 pub mod Unique
+pub mod OperationNumbers

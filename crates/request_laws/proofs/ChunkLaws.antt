@@ -9,10 +9,10 @@ use lib.Seq.{take-add}
 use Rattle.patterns.specs.Format.{binary64}
 use Rattle.meaning.specs.Bytes.{bigEndian}
 use Rattle.meaning.specs.Requests.{zeros, decoratedSize, writeDecorated, DecoratedRequest, unknown}
+use Rattle.meaning.proofs.OperationNumbers.{not-zero}
 use Rattle.cases.specs.Table.{two}
 use Rattle.request_laws.specs.Calls.{Left, Leaves}
 use Rattle.request_laws.specs.Chunk.{requestSize, replySize, part, Replied, Chunk}
-use Rattle.request_laws.proofs.OperationNumbers.{zero-unknown}
 use Rattle.request_laws.proofs.OneOutcome.{decorated-request-once}
 use Rattle.request_laws.proofs.Examples.{decoratedSum, decorated-sum, common}
 
@@ -53,7 +53,7 @@ first-reply h =
 second-reply : {bytes : List ℕ} → Replied (part requestSize 1 twoRequests) bytes → getD bytes 0 0 ≡ 3
 second-reply h =
     ap (λ (l : List ℕ). getD l 0 0)
-    (replied-as h (record { number = 3; place = 0; after = zeros decoratedSize }) (unknown refl refl (zero-unknown refl)))
+    (replied-as h (record { number = 3; place = 0; after = zeros decoratedSize }) (unknown refl refl (λ k. not-zero (k .asked) (sym (k .asks .is)))))
 
 -- No run that answers the first request and repeats its reply answers every chunk for which there is room.
 pub no-repeating : (run : (count : ℕ) (input before : List ℕ) → List ℕ)

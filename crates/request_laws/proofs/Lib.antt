@@ -1,6 +1,5 @@
 -- Laws of requests and codecs.
 pub mod CalledLaws
-pub mod OperationNumbers
 pub mod SoundLaws
 pub mod OutcomeLaws
 pub mod OneOutcome
@@ -10,3 +9,5 @@ pub mod WrongRequests
 pub mod SecondOperand
 pub mod ChunkLaws
 pub mod SmallLaws
+pub mod ReadLaws
+pub mod RequestedLaws

@@ -15,7 +15,7 @@ use Rattle.states.proofs.DecorationLaws.{allows₁-unique, allows₂-unique}
 use Rattle.states.proofs.OverlapLaws.{number-unique, decorated-number-unique}
 use Rattle.states.proofs.ReadingLaws.{read-once}
 use Rattle.request_laws.proofs.CalledLaws.{Single}
-use Rattle.request_laws.proofs.OperationNumbers.{asks-once}
+use Rattle.meaning.proofs.OperationNumbers.{asks-once}
 use Rattle.request_laws.proofs.SoundLaws.{sound-valid, sound-ends}
 
 -- At most one value.

@@ -8,7 +8,7 @@ use Rattle.meaning.specs.Points.{Unary}
 use Rattle.meaning.specs.Statement.{Outcome, refused, given}
 use Rattle.meaning.specs.Requests.{Asked, unary, operationNumber, Asks, Known, Requested, firstOperand, secondOperand, Called, wrongLength, wrongRoom, unknown, refusedBytes, answered, bareSize, decoratedSize, BareOutcome, DecoratedOutcome, BareRequest, DecoratedRequest}
 use Rattle.request_laws.specs.Calls.{Left, Statement, Leaves, Call, Meets}
-use Rattle.request_laws.proofs.OperationNumbers.{asks-once}
+use Rattle.meaning.proofs.OperationNumbers.{asks-once}
 use Rattle.request_laws.proofs.OneOutcome.{bare-request-once, decorated-request-once}
 
 -- Two inputs of one length that ask for the same operation of one operand, on the same first operand.

@@ -2,4 +2,3 @@
 pub mod EndOrder
 pub mod TrueEnds
 pub mod SetOperations
-pub mod OneAnswer

@@ -1,4 +1,4 @@
-// The operations on bare intervals that were judged already.
+// The operations, by the ends of their operands.
 ghost use Rattle.patterns.specs.Format.{binary64};
 ghost use Rattle.meaning.specs.Pairs.{Proper, Bare, setOf};
 ghost use Rattle.meaning.specs.Results.{Result₂, convexHull, intersection};
@@ -13,7 +13,7 @@ use interval::tidy;
 use operands::either_empty;
 
 // [min {a, c}, max {b, d}] for operands with members.
-fn hull_of_spans(x: Interval, y: Interval) -> Interval
+fn convex_hull_of_spans(x: Interval, y: Interval) -> Interval
     requires { ⌜ Proper binary64 (pairOf x) × Proper binary64 (pairOf y) ⌝ }
     ensures { λ r. ⌜ HullOf binary64 (Result₂ convexHull (setOf binary64 (pairOf x)) (setOf binary64 (pairOf y))) (pairOf r) ⌝ }
 {
@@ -29,7 +29,7 @@ fn hull_of_spans(x: Interval, y: Interval) -> Interval
 // ------------+--------+--------------------------
 //  x = ∅      | ∅      | [c, d]
 //  x = [a, b] | [a, b] | [min {a, c}, max {b, d}]
-pub fn hull_of(x: Interval, y: Interval) -> Interval
+pub fn convex_hull_of(x: Interval, y: Interval) -> Interval
     requires { ⌜ Bare binary64 (pairOf x) × Bare binary64 (pairOf y) ⌝ }
     ensures { λ r. ⌜ HullOf binary64 (Result₂ convexHull (setOf binary64 (pairOf x)) (setOf binary64 (pairOf y))) (pairOf r) ⌝ }
 {
@@ -39,7 +39,7 @@ pub fn hull_of(x: Interval, y: Interval) -> Interval
     if is_empty_pair(y) {
         return tidy(x);
     }
-    hull_of_spans(x, y)
+    convex_hull_of_spans(x, y)
 }
 
 // [max {a, c}, min {b, d}] for operands with members, or EMPTY if they lie apart.

@@ -8,8 +8,7 @@ use Rattle.meaning.specs.Bytes.{writePair}
 use Rattle.meaning.specs.Requests.{wrongLength, wrongRoom, BareCodec}
 use Rattle.interval.specs.Conversions.{outcome}
 use Rattle.end_bytes.specs.Conversions.{orderOf}
-use Rattle.request.proofs.PlaceLaws.{whole}
-use Rattle.request.proofs.OutcomeLaws.{in-case}
+use Rattle.request_laws.proofs.ReadLaws.{found₁}
 use Rattle.codecs.proofs.CodecLaws.{recoded, not-recoded}
 use Rattle.codecs.proofs.bare.recode.Statement.{statement}
 use Rattle.codecs.proofs.bare.recode.Tie as tie
@@ -20,8 +19,8 @@ returns c = wrongLength (c .if1 .taken)
 returns-2 : tie.Need-returns-2
 returns-2 c = wrongRoom (c .before .if1 .left) (c .if2 .taken)
 
-operand-requires : tie.Need-operand-requires
-operand-requires c κs = search needs
+bare-at-requires : tie.Need-bare-at-requires
+bare-at-requires c κs = search needs
 
 read-requires : tie.Need-read-requires
 read-requires c κs = tt
@@ -29,8 +28,8 @@ read-requires c κs = tt
 enum-known-x : tie.Need-enum-known-x
 enum-known-x c = c .match .keys1
 
-write-ends-requires : tie.Need-write-ends-requires
-write-ends-requires c κs = search needs
+write-bare-requires : tie.Need-write-bare-requires
+write-bare-requires c κs = search needs
 
 enum-known-number : tie.Need-enum-known-number
 enum-known-number c = c .match .keys2
@@ -46,9 +45,9 @@ returns-3 c =
     let long = taken .before .before .if1 .left in
     let a = taken .before .before .before .before .before .args in
     subst⁻¹ (BareCodec binary64 (orderOf (a .from)) (orderOf (a .to)) (a .input .now) (a .output .now) 0 0)
-    (whole 16 (a .output .now) (c .before .before .write-ends .ensures) (taken .before .if2 .left))
-    (recoded (taken .operand .ensures ∙ take-all 16 (a .input .now) (le-of-eq long)) long (taken .before .if2 .left)
-    (ap (writePair (orderOf (a .to)))) (in-case outcome (read .read .ensures) (told .x .given .1)))
+    (c .before .before .write-bare .ensures)
+    (recoded (taken .bare-at .ensures ∙ take-all 16 (a .input .now) (le-of-eq long)) long (taken .before .if2 .left)
+    (ap (writePair (orderOf (a .to)))) (found₁ outcome (read .read .ensures) (told .x .given .1)))
 
 returns-4 : tie.Need-returns-4
 returns-4 c =
@@ -56,8 +55,8 @@ returns-4 c =
     let taken = read .before in
     let long = taken .before .before .if1 .left in
     let a = taken .before .before .before .before .before .args in
-    not-recoded (taken .operand .ensures ∙ take-all 16 (a .input .now) (le-of-eq long)) long (taken .before .if2 .left)
-    (in-case outcome (read .read .ensures) (c .before .number .given .1))
+    not-recoded (taken .bare-at .ensures ∙ take-all 16 (a .input .now) (le-of-eq long)) long (taken .before .if2 .left)
+    (found₁ outcome (read .read .ensures) (c .before .number .given .1))
 
 pub recode-spec : {M : Type 1} → statement M
 recode-spec =
@@ -65,10 +64,10 @@ recode-spec =
     (tie.spec
     returns
     returns-2
-    operand-requires
+    bare-at-requires
     read-requires
     enum-known-x
-    write-ends-requires
+    write-bare-requires
     enum-known-number
     same-length
     returns-3

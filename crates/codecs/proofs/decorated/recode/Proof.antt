@@ -7,7 +7,7 @@ use Rattle.patterns.specs.Format.{binary64}
 use Rattle.meaning.specs.Requests.{wrongLength, wrongRoom, DecoratedCodec}
 use Rattle.interval.specs.Conversions.{decPairOf, decOutcome}
 use Rattle.end_bytes.specs.Conversions.{orderOf}
-use Rattle.request.proofs.OutcomeLaws.{in-case}
+use Rattle.request_laws.proofs.ReadLaws.{found₁}
 use Rattle.codecs.proofs.CodecLaws.{recoded, not-recoded}
 use Rattle.codecs.proofs.decorated.recode.Statement.{statement}
 use Rattle.codecs.proofs.decorated.recode.Tie as tie
@@ -18,8 +18,8 @@ returns c = wrongLength (c .if1 .taken)
 returns-2 : tie.Need-returns-2
 returns-2 c = wrongRoom (c .before .if1 .left) (c .if2 .taken)
 
-operand-requires : tie.Need-operand-requires
-operand-requires c κs = search needs
+decorated-at-requires : tie.Need-decorated-at-requires
+decorated-at-requires c κs = search needs
 
 read-requires : tie.Need-read-requires
 read-requires c κs = tt
@@ -27,8 +27,8 @@ read-requires c κs = tt
 enum-known-x : tie.Need-enum-known-x
 enum-known-x c = c .match .keys1
 
-write-interval-requires : tie.Need-write-interval-requires
-write-interval-requires c κs = search needs
+write-decorated-requires : tie.Need-write-decorated-requires
+write-decorated-requires c κs = search needs
 
 enum-known-number : tie.Need-enum-known-number
 enum-known-number c = c .match .keys2
@@ -44,9 +44,9 @@ returns-3 c =
     let long = taken .before .before .if1 .left in
     let a = taken .before .before .before .before .before .args in
     subst⁻¹ (DecoratedCodec binary64 (orderOf (a .from)) (orderOf (a .to)) (a .input .now) (a .output .now) 0 0)
-    (c .before .before .write-interval .ensures)
-    (recoded (taken .operand .ensures ∙ take-all 17 (a .input .now) (le-of-eq long)) long (taken .before .if2 .left)
-    (λ r. record { answer = decPairOf (told .x .given .0 .0); right = r; written = refl }) (in-case decOutcome (read .read .ensures) (told .x .given .1)))
+    (c .before .before .write-decorated .ensures)
+    (recoded (taken .decorated-at .ensures ∙ take-all 17 (a .input .now) (le-of-eq long)) long (taken .before .if2 .left)
+    (λ r. record { answer = decPairOf (told .x .given .0 .0); right = r; written = refl }) (found₁ decOutcome (read .read .ensures) (told .x .given .1)))
 
 returns-4 : tie.Need-returns-4
 returns-4 c =
@@ -54,8 +54,8 @@ returns-4 c =
     let taken = read .before in
     let long = taken .before .before .if1 .left in
     let a = taken .before .before .before .before .before .args in
-    not-recoded (taken .operand .ensures ∙ take-all 17 (a .input .now) (le-of-eq long)) long (taken .before .if2 .left)
-    (in-case decOutcome (read .read .ensures) (c .before .number .given .1))
+    not-recoded (taken .decorated-at .ensures ∙ take-all 17 (a .input .now) (le-of-eq long)) long (taken .before .if2 .left)
+    (found₁ decOutcome (read .read .ensures) (c .before .number .given .1))
 
 pub recode-spec : {M : Type 1} → statement M
 recode-spec =
@@ -63,10 +63,10 @@ recode-spec =
     (tie.spec
     returns
     returns-2
-    operand-requires
+    decorated-at-requires
     read-requires
     enum-known-x
-    write-interval-requires
+    write-decorated-requires
     enum-known-number
     same-length
     returns-3

@@ -1,0 +1,2 @@
+-- Laws of bare operands that were read.
+pub mod SoundOperands

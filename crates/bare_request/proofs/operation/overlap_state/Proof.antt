@@ -1,0 +1,49 @@
+-- `operation::overlap_state` meets its contract: sound operands have a state, and any others are refused.
+use Rattle.patterns.specs.Format.{binary64}
+use Rattle.meaning.specs.Pairs.{setOf}
+use Rattle.meaning.specs.Overlap.{OverlapNumber}
+use Rattle.meaning.specs.Requests.{writeState, bareSize}
+use Rattle.overlap.specs.Conversions.{stateOf}
+use Rattle.request_laws.proofs.ReadLaws.{found₂, after₂, refused₂}
+use Rattle.bare_request.specs.Conversions.{outcomeOf, bothOf}
+use Rattle.bare_request.proofs.SoundOperands.{two-sound, write₂}
+use Rattle.bare_request.proofs.operation.overlap_state.Statement.{statement}
+use Rattle.bare_request.proofs.operation.overlap_state.Tie as tie
+
+read-both-requires : tie.Need-read-both-requires
+read-both-requires c κs = tt
+
+enum-known-x : tie.Need-enum-known-x
+enum-known-x c = c .match .keys1
+
+overlap-of-requires : tie.Need-overlap-of-requires
+overlap-of-requires c κs = two-sound (found₂ bothOf (c .before .before .before .read-both .ensures) (c .before .x .given .1))
+
+state-number-requires : tie.Need-state-number-requires
+state-number-requires c κs = tt
+
+enum-known-n : tie.Need-enum-known-n
+enum-known-n c = c .match .keys2
+
+returns : tie.Need-returns
+unfolding outcomeOf
+returns c =
+    after₂ (found₂ bothOf (c .before .before .before .before .before .read-both .ensures) (c .before .before .before .x .given .1))
+    (write₂ (writeState bareSize) (λ x y s. OverlapNumber (setOf binary64 x) (setOf binary64 y) s)
+    (record { state = stateOf (c .before .overlap-of .result); holds = c .before .overlap-of .ensures; is = c .state-number .ensures }))
+
+returns-2 : tie.Need-returns-2
+unfolding outcomeOf
+returns-2 c = refused₂ (found₂ bothOf (c .before .before .before .read-both .ensures) (c .before .n .given .1))
+
+pub overlap-state-spec : {M : Type 1} → statement M
+overlap-state-spec =
+    tie.close
+    (tie.spec
+    read-both-requires
+    enum-known-x
+    overlap-of-requires
+    state-number-requires
+    enum-known-n
+    returns
+    returns-2)

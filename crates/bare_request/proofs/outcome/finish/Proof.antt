@@ -1,0 +1,65 @@
+-- `outcome::finish` meets its contract: an answer is written over the whole output, and a refusal writes nothing.
+use mathlib.Core.Path.{_∙_, ap}
+use Prim.Native.Nat.{ℕ}
+use borrow.Author.Needs.{needs}
+use Rattle.meaning.specs.Requests.{writeState}
+use Rattle.request_laws.specs.Calls.{leftBy}
+use Rattle.bare_request.specs.Conversions.{outcomeOf}
+use Rattle.bare_request.specs.declared.outcome.Outcome.{Outcome}
+use Rattle.request_laws.proofs.RequestedLaws.{left-given}
+use Rattle.bare_request.proofs.outcome.finish.Statement.{statement}
+use Rattle.bare_request.proofs.outcome.finish.Tie as tie
+
+enum-known-outcome : tie.Need-enum-known-outcome
+enum-known-outcome c = c .match .keys1
+
+write-bare-requires : tie.Need-write-bare-requires
+write-bare-requires c κs = search needs
+
+enum-known-outcome-2 : tie.Need-enum-known-outcome-2
+enum-known-outcome-2 c = c .match .keys2
+
+write-state-requires : tie.Need-write-state-requires
+write-state-requires c κs = search needs
+
+enum-known-outcome-3 : tie.Need-enum-known-outcome-3
+enum-known-outcome-3 c = c .match .keys3
+
+same-length : tie.Need-same-length
+same-length c = search needs
+
+returns : tie.Need-returns
+unfolding outcomeOf
+returns c =
+    let told = c .before .before .before .before .before in
+    left-given (told .before .before .before .args .output .now) (ap outcomeOf (told .outcome .given .1))
+    (c .before .before .write-bare .ensures)
+
+same-length-2 : tie.Need-same-length-2
+same-length-2 c = search needs
+
+returns-2 : tie.Need-returns-2
+unfolding outcomeOf
+returns-2 c =
+    let told = c .before .before .before .before .before in
+    left-given (told .before .before .before .args .output .now) (ap outcomeOf (told .outcome2 .given .1))
+    (c .before .before .write-state .ensures ∙ ap (λ (size : ℕ). writeState size (told .outcome2 .given .0 .0)) (told .before .before .before .pre))
+
+returns-3 : tie.Need-returns-3
+unfolding outcomeOf
+returns-3 c = ap (λ (o : Outcome). leftBy (c .before .before .before .before .args .output .now) (outcomeOf o)) (c .before .outcome3 .given .1)
+
+pub finish-spec : {M : Type 1} → statement M
+finish-spec =
+    tie.close
+    (tie.spec
+    enum-known-outcome
+    write-bare-requires
+    enum-known-outcome-2
+    write-state-requires
+    enum-known-outcome-3
+    same-length
+    returns
+    same-length-2
+    returns-2
+    returns-3)

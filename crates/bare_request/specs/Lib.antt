@@ -1,0 +1,2 @@
+-- What the contracts of bare requests cite.
+pub mod Conversions

@@ -1,0 +1,2 @@
+-- Every public function has one answer.
+pub mod OneAnswer

@@ -1,0 +1,26 @@
+-- Two answers that both satisfy the statement of a public function are equal, one theorem for each kind of function.
+use mathlib.Core.Path.{_≡_}
+use Rattle.patterns.specs.Format.{Format}
+use Rattle.meaning.specs.Pairs.{Pair}
+use Rattle.meaning.specs.Points.{Unary}
+use Rattle.meaning.specs.Results.{Operation}
+use Rattle.meaning.specs.Statement.{DecPair, Bare₁, Bare₂, Decorated₁, Decorated₂}
+use Rattle.meaning.proofs.Unique.{bare₁-once, bare₂-once}
+use Rattle.states.proofs.DecoratedLaws.{decorated₁-once, decorated₂-once}
+use Rattle.interval.specs.Conversions.{outcome, decOutcome}
+use Rattle.interval.specs.declared.answers.Answer.{Answer}
+use Rattle.interval.specs.declared.answers.DecAnswer.{DecAnswer}
+use Rattle.interval.proofs.Codes.{answer-known, decAnswer-known}
+
+module _ (F : Format) where
+  pub one-once : (op : Unary) (x : Pair) (r s : Answer) → Bare₁ F op x (outcome r) → Bare₁ F op x (outcome s) → r ≡ s
+  one-once op x r s a b = answer-known (bare₁-once F op x a b)
+
+  pub two-once : (op : Operation) (x y : Pair) (r s : Answer) → Bare₂ F op x y (outcome r) → Bare₂ F op x y (outcome s) → r ≡ s
+  two-once op x y r s a b = answer-known (bare₂-once F op x y a b)
+
+  pub one-dec-once : (op : Unary) (x : DecPair) (r s : DecAnswer) → Decorated₁ F op x (decOutcome r) → Decorated₁ F op x (decOutcome s) → r ≡ s
+  one-dec-once op x r s a b = decAnswer-known (decorated₁-once F op x a b)
+
+  pub two-dec-once : (op : Operation) (x y : DecPair) (r s : DecAnswer) → Decorated₂ F op x y (decOutcome r) → Decorated₂ F op x y (decOutcome s) → r ≡ s
+  two-dec-once op x y r s a b = decAnswer-known (decorated₂-once F op x y a b)

@@ -1,0 +1,7 @@
+// The operations on intervals passed by value, under the names and in the files of the crate. Every function takes any value
+// and refuses what is no interval, with 5 or 6 and the place.
+pub mod absmax;
+pub mod arith;
+pub mod integer;
+mod judged;
+pub mod set_op;

@@ -1,0 +1,2 @@
+-- Laws of decorated operands that were read.
+pub mod SoundOperands

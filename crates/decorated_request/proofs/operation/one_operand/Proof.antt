@@ -1,0 +1,36 @@
+-- `operation::one_operand` meets its contract: a sound operand is answered, and any other refused.
+use Rattle.meaning.specs.Bytes.{bigEndian}
+use Rattle.meaning.specs.Requests.{writeDecorated}
+use Rattle.interval.specs.Conversions.{decOutcome}
+use Rattle.request_laws.proofs.ReadLaws.{found₁, after₁, refused₁}
+use Rattle.decorated_request.specs.Conversions.{outcomeOf}
+use Rattle.decorated_request.proofs.SoundOperands.{one-sound, write₁}
+use Rattle.decorated_request.proofs.operation.one_operand.Statement.{statement}
+use Rattle.decorated_request.proofs.operation.one_operand.Tie as tie
+
+try-from-be-bytes-requires : tie.Need-try-from-be-bytes-requires
+try-from-be-bytes-requires c κs = tt
+
+enum-known-x : tie.Need-enum-known-x
+enum-known-x c = c .match .keys1
+
+image-dec-requires : tie.Need-image-dec-requires
+image-dec-requires c κs = one-sound (found₁ decOutcome (c .before .before .before .try-from-be-bytes .ensures) (c .before .x .given .1))
+
+enum-known-n : tie.Need-enum-known-n
+enum-known-n c = c .match .keys2
+
+returns : tie.Need-returns
+unfolding outcomeOf
+returns c =
+    λ second. after₁ (found₁ decOutcome (c .before .before .before .before .try-from-be-bytes .ensures) (c .before .before .x .given .1))
+    (write₁ (writeDecorated bigEndian) (c .image-dec .ensures))
+
+returns-2 : tie.Need-returns-2
+unfolding outcomeOf
+returns-2 c = λ second. refused₁ (found₁ decOutcome (c .before .before .before .try-from-be-bytes .ensures) (c .before .n .given .1))
+
+pub one-operand-spec : {M : Type 1} → statement M
+one-operand-spec =
+    tie.close
+    (tie.spec try-from-be-bytes-requires enum-known-x image-dec-requires enum-known-n returns returns-2)

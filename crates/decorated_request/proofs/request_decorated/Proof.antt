@@ -1,0 +1,36 @@
+-- `request_decorated` meets its contract: the lengths are tried first, and then the outcome decides.
+use mathlib.Core.Path.{subst}
+use borrow.Author.Needs.{needs}
+use Rattle.patterns.specs.Format.{binary64}
+use Rattle.meaning.specs.Requests.{wrongLength, wrongRoom, DecoratedRequest}
+use Rattle.request_laws.specs.Calls.{Leaves}
+use Rattle.request_laws.proofs.CalledLaws.{called-by}
+use Rattle.decorated_request.specs.Conversions.{outcomeOf}
+use Rattle.decorated_request.proofs.request_decorated.Statement.{statement}
+use Rattle.decorated_request.proofs.request_decorated.Tie as tie
+
+returns : tie.Need-returns
+returns c = wrongLength (c .if1 .taken)
+
+returns-2 : tie.Need-returns-2
+returns-2 c = wrongRoom (c .before .if1 .left) (c .if2 .taken)
+
+answer-requires : tie.Need-answer-requires
+answer-requires c κs = search needs
+
+finish-requires : tie.Need-finish-requires
+finish-requires c κs = search needs
+
+same-length : tie.Need-same-length
+same-length c = search needs
+
+returns-3 : tie.Need-returns-3
+returns-3 c =
+    let answered = c .before .before .before .before in
+    let given = answered .before .before .before .before .before .args in
+    subst (Leaves (DecoratedRequest binary64) (given .input .now) (given .output .now)) (c .before .before .finish .ensures)
+    (called-by (outcomeOf (answered .answer .result)) (answered .before .before .if1 .left) (answered .before .if2 .left) (answered .answer .ensures))
+
+pub request-decorated-spec : {M : Type 1} → statement M
+request-decorated-spec =
+    tie.close (tie.spec returns returns-2 answer-requires finish-requires same-length returns-3)

@@ -1,2 +1,0 @@
--- Laws of operation numbers.
-pub mod NumberLaws

@@ -1,3 +1,0 @@
--- What the contracts of operations by number cite.
-pub mod Numbers
-pub mod Combined

@@ -1,0 +1,3 @@
+-- What the contracts of operations by name cite.
+pub mod Names
+pub mod Numbers

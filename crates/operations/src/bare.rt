@@ -1,0 +1,48 @@
+// The hull of an operation's results on bare intervals.
+ghost use Rattle.patterns.specs.Format.{binary64};
+ghost use Rattle.meaning.specs.Pairs.{Bare, setOf};
+ghost use Rattle.meaning.specs.Results.{Result₁, Result₂};
+ghost use Rattle.meaning.specs.Statement.{HullOf};
+ghost use Rattle.interval.specs.Conversions.{pairOf};
+ghost use Rattle.operations.specs.Names.{unaryOf, binaryOf};
+use crate::names::Binary;
+use crate::names::Unary;
+use absmax::abs_of;
+use absmax::max_of;
+use absmax::min_of;
+use arith::add_of;
+use arith::div_of;
+use arith::mul_of;
+use arith::neg_of;
+use arith::sub_of;
+use integer::image_of;
+use interval::Interval;
+use set_op::convex_hull_of;
+use set_op::intersection_of;
+
+pub fn image(f: Unary, x: Interval) -> Interval
+    requires { ⌜ Bare binary64 (pairOf x) ⌝ }
+    ensures { λ r. ⌜ HullOf binary64 (Result₁ (unaryOf f) (setOf binary64 (pairOf x))) (pairOf r) ⌝ }
+{
+    match f {
+        Unary::Neg => neg_of(x),
+        Unary::Abs => abs_of(x),
+        Unary::Whole(g) => image_of(g, x),
+    }
+}
+
+pub fn combine(o: Binary, x: Interval, y: Interval) -> Interval
+    requires { ⌜ Bare binary64 (pairOf x) × Bare binary64 (pairOf y) ⌝ }
+    ensures { λ r. ⌜ HullOf binary64 (Result₂ (binaryOf o) (setOf binary64 (pairOf x)) (setOf binary64 (pairOf y))) (pairOf r) ⌝ }
+{
+    match o {
+        Binary::Add => add_of(x, y),
+        Binary::Sub => sub_of(x, y),
+        Binary::Mul => mul_of(x, y),
+        Binary::Div => div_of(x, y),
+        Binary::ConvexHull => convex_hull_of(x, y),
+        Binary::Intersection => intersection_of(x, y),
+        Binary::Max => max_of(x, y),
+        Binary::Min => min_of(x, y),
+    }
+}

@@ -1,0 +1,75 @@
+// The right answer on decorated intervals: NaI if an operand is, and else the bare answer with its decoration.
+ghost use Rattle.patterns.specs.Format.{binary64};
+ghost use Rattle.meaning.specs.Sets.{Set};
+ghost use Rattle.meaning.specs.Pairs.{Bare, setOf};
+ghost use Rattle.meaning.specs.Results.{Result₁};
+ghost use Rattle.meaning.specs.Decorations.{Allows₁, Allows₂};
+ghost use Rattle.meaning.specs.Statement.{HullOf, JudgedDecorated, sound, RightDec₁, RightDec₂};
+ghost use Rattle.interval.specs.Conversions.{pairOf, decorationOf, decPairOf};
+ghost use Rattle.operations.specs.Names.{unaryOf, binaryOf};
+use crate::bare::combine;
+use crate::bare::image;
+use crate::names::Binary;
+use crate::names::Unary;
+use arith_ends::divided_decoration;
+use integer::allowed;
+use interval::DecInterval;
+use interval::Decoration;
+use interval::Interval;
+use operands::Operands;
+use operands::decorate;
+use operands::one_operand;
+use operands::two_operands;
+
+// The highest decoration that the result `z` on the operand `x` may have.
+fn allowed_one(f: Unary, x: Interval, z: Interval) -> Decoration
+    requires { ⌜ Bare binary64 (pairOf x) × HullOf binary64 (Result₁ (unaryOf f) (setOf binary64 (pairOf x))) (pairOf z) ⌝ }
+    ensures { λ r. ⌜ Allows₁ (unaryOf f) (setOf binary64 (pairOf x)) (setOf binary64 (pairOf z)) (decorationOf r) ⌝ }
+{
+    match f {
+        Unary::Neg => Decoration::Com,
+        Unary::Abs => Decoration::Com,
+        Unary::Whole(g) => allowed(g, x, z),
+    }
+}
+
+// The highest decoration that a result with the second operand `y` may have.
+fn allowed_two(o: Binary, y: Interval) -> Decoration
+    requires { ⌜ Bare binary64 (pairOf y) ⌝ }
+    ensures { λ r. ⌜ ((X : Set) → Allows₂ (binaryOf o) X (setOf binary64 (pairOf y)) (decorationOf r)) ⌝ }
+{
+    match o {
+        Binary::Add => Decoration::Com,
+        Binary::Sub => Decoration::Com,
+        Binary::Mul => Decoration::Com,
+        Binary::Div => divided_decoration(y),
+        Binary::ConvexHull => Decoration::Trv,
+        Binary::Intersection => Decoration::Trv,
+        Binary::Max => Decoration::Com,
+        Binary::Min => Decoration::Com,
+    }
+}
+
+pub fn image_dec(f: Unary, x: DecInterval) -> DecInterval
+    requires { ⌜ JudgedDecorated binary64 (decPairOf x) sound ⌝ }
+    ensures { λ r. ⌜ RightDec₁ binary64 (unaryOf f) (decPairOf x) (decPairOf r) ⌝ }
+{
+    match one_operand(x) {
+        Operands::Nai => DecInterval::NAI,
+        Operands::Intervals(d) => {
+            let ends = x.x;
+            let z = image(f, ends);
+            decorate(z, allowed_one(f, ends, z), d)
+        }
+    }
+}
+
+pub fn combine_dec(o: Binary, x: DecInterval, y: DecInterval) -> DecInterval
+    requires { ⌜ JudgedDecorated binary64 (decPairOf x) sound × JudgedDecorated binary64 (decPairOf y) sound ⌝ }
+    ensures { λ r. ⌜ RightDec₂ binary64 (binaryOf o) (decPairOf x) (decPairOf y) (decPairOf r) ⌝ }
+{
+    match two_operands(x, y) {
+        Operands::Nai => DecInterval::NAI,
+        Operands::Intervals(d) => decorate(combine(o, x.x, y.x), allowed_two(o, y.x), d),
+    }
+}

@@ -1,0 +1,96 @@
+// The operation numbers of document 01, and the operations that they stand for.
+ghost use mathlib.Core.Path.{_≡_};
+ghost use Rattle.meaning.specs.Requests.{unary, binary, operationNumber};
+ghost use Rattle.operations.specs.Names.{unaryOf, binaryOf};
+ghost use Rattle.operations.specs.Numbers.{OneOperand, TwoOperands, AskedBy};
+use crate::names::Binary;
+use crate::names::Unary;
+use wholes::Function;
+
+// What an operation number asks for.
+pub enum Asked {
+    One(Unary),
+    Two(Binary),
+    Overlap,
+    // The number is none of an operation.
+    Nothing,
+}
+
+const NEG: u8 = 1;
+
+const ADD: u8 = 2;
+
+const SUB: u8 = 3;
+
+const MUL: u8 = 4;
+
+const DIV: u8 = 5;
+
+const CONVEX_HULL: u8 = 6;
+
+const INTERSECTION: u8 = 7;
+
+const MAX: u8 = 8;
+
+const MIN: u8 = 9;
+
+const ABS: u8 = 10;
+
+const CEIL: u8 = 11;
+
+const FLOOR: u8 = 12;
+
+const ROUND: u8 = 13;
+
+const ROUND_TIES_EVEN: u8 = 14;
+
+const SIGN: u8 = 15;
+
+const TRUNC: u8 = 16;
+
+const OVERLAP: u8 = 17;
+
+fn unary_numbered(number: u8) -> Unary
+    requires { ⌜ OneOperand number ⌝ }
+    ensures { λ r. ⌜ number ≡ operationNumber (unary (unaryOf r)) ⌝ }
+{
+    match number {
+        NEG => Unary::Neg,
+        ABS => Unary::Abs,
+        CEIL => Unary::Whole(Function::Ceil),
+        FLOOR => Unary::Whole(Function::Floor),
+        ROUND => Unary::Whole(Function::Round),
+        ROUND_TIES_EVEN => Unary::Whole(Function::RoundTiesEven),
+        SIGN => Unary::Whole(Function::Sign),
+        _ => Unary::Whole(Function::Trunc),
+    }
+}
+
+fn binary_numbered(number: u8) -> Binary
+    requires { ⌜ TwoOperands number ⌝ }
+    ensures { λ r. ⌜ number ≡ operationNumber (binary (binaryOf r)) ⌝ }
+{
+    match number {
+        ADD => Binary::Add,
+        SUB => Binary::Sub,
+        MUL => Binary::Mul,
+        DIV => Binary::Div,
+        CONVEX_HULL => Binary::ConvexHull,
+        INTERSECTION => Binary::Intersection,
+        MAX => Binary::Max,
+        _ => Binary::Min,
+    }
+}
+
+// The operation with a number. Numbers from ABS to TRUNC and NEG are of one operand, those from ADD to MIN of two, and so is
+// OVERLAP, whose answer is a state.
+pub fn numbered(number: u8) -> Asked
+    ensures { λ r. ⌜ AskedBy number r ⌝ }
+{
+    match number {
+        NEG | ABS..=TRUNC => Asked::One(unary_numbered(number)),
+        ADD..=MIN => Asked::Two(binary_numbered(number)),
+        OVERLAP => Asked::Overlap,
+        _ => Asked::Nothing,
+    }
+}

@@ -1,5 +1,0 @@
--- Laws of requests on bytes.
-pub mod PlaceLaws
-pub mod OutcomeLaws
-pub mod BareLaws
-pub mod DecoratedLaws

@@ -1,3 +1,0 @@
--- What the contracts of requests cite.
-pub mod Conversions
-pub mod Outcomes

@@ -1,0 +1,28 @@
+-- `bare::convex_hull_of_spans` meets its contract: the chosen ends are the true bounds.
+use mathlib.Core.Logic.{inl}
+use Rattle.patterns.specs.Format.{binary64}
+use Rattle.set_op.proofs.TrueEnds.{span-of, exact-proper, exact-answer}
+use Rattle.set_op.proofs.SetOperations.{hull-exact}
+use Rattle.set_op.proofs.bare.convex_hull_of_spans.Statement.{statement}
+use Rattle.set_op.proofs.bare.convex_hull_of_spans.Tie as tie
+
+lesser-requires : tie.Need-lesser-requires
+lesser-requires c κs = tt
+
+greater-requires : tie.Need-greater-requires
+greater-requires c κs = tt
+
+tidy-requires : tie.Need-tidy-requires
+tidy-requires c κs =
+    let (x, y) = c .before .before .pre in
+    inl (exact-proper binary64 _ (hull-exact binary64 (span-of binary64 _ x) (span-of binary64 _ y) (c .before .lesser .ensures) (c .greater .ensures)))
+
+returns : tie.Need-returns
+returns c =
+    let (x, y) = c .before .before .before .pre in
+    exact-answer binary64
+    (hull-exact binary64 (span-of binary64 _ x) (span-of binary64 _ y) (c .before .before .lesser .ensures) (c .before .greater .ensures))
+    (c .tidy .ensures)
+
+pub convex-hull-of-spans-spec : {M : Type 1} → statement M
+convex-hull-of-spans-spec = tie.close (tie.spec lesser-requires greater-requires tidy-requires returns)
