@@ -3,7 +3,7 @@ ghost use Rattle.patterns.specs.Format.{binary64};
 ghost use Rattle.meaning.specs.Classes.{ClassOf, classZ};
 ghost use Rattle.meaning.specs.Pairs.{Bare, setOf};
 ghost use Rattle.meaning.specs.Decorations.{Divided};
-ghost use Rattle.interval.specs.Answers.{Answers};
+ghost use Rattle.flags.specs.Answers.{Answers};
 ghost use Rattle.interval.specs.Conversions.{pairOf, decorationOf};
 use classify::IntervalClass;
 use classify::classify;

@@ -5,7 +5,7 @@ ghost use Rattle.meaning.specs.Classes.{AtZero};
 ghost use Rattle.meaning.specs.Pairs.{endOf};
 ghost use Rattle.meaning.specs.Supremum.{UpperEnd};
 ghost use Rattle.exact_ends.specs.Ends.{sumEnd, productEnd, quotientEnd};
-ghost use Rattle.interval.specs.Answers.{Answers};
+ghost use Rattle.flags.specs.Answers.{Answers};
 use interval::INFINITY;
 use interval::is_finite;
 use products::mul_ru;

@@ -5,8 +5,7 @@ use Prim.Native.Nat.{ℕ}
 use Rattle.patterns.specs.Format.{binary64}
 use Rattle.meaning.specs.Pairs.{Pair, Bare}
 use Rattle.meaning.specs.Statement.{Outcome, given, Answered₁, right₁, Answered₂, right₂}
-use Rattle.meaning.specs.Bytes.{bigEndian, JudgedBytes, bytesGood}
-use Rattle.meaning.specs.Requests.{Written}
+use Rattle.meaning.specs.Bytes.{bigEndian, JudgedBytes, bytesGood, Written}
 use Rattle.request_laws.specs.Reads.{BothRead}
 use Rattle.bare_request.specs.Conversions.{ReadPair}
 

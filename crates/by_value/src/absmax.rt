@@ -4,14 +4,14 @@ ghost use Rattle.meaning.specs.Points as points;
 ghost use Rattle.meaning.specs.Results.{point};
 ghost use Rattle.meaning.specs.Statement.{Bare₁, Bare₂, Decorated₁, Decorated₂};
 ghost use Rattle.interval.specs.Conversions.{pairOf, decPairOf, outcome, decOutcome};
-use crate::judged::one;
-use crate::judged::one_dec;
-use crate::judged::two;
-use crate::judged::two_dec;
 use interval::Answer;
 use interval::DecAnswer;
 use interval::DecInterval;
 use interval::Interval;
+use judged::one;
+use judged::one_dec;
+use judged::two;
+use judged::two_dec;
 use operations::Binary;
 use operations::Unary;
 

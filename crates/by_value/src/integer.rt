@@ -3,12 +3,12 @@ ghost use Rattle.patterns.specs.Format.{binary64};
 ghost use Rattle.meaning.specs.Points as points;
 ghost use Rattle.meaning.specs.Statement.{Bare₁, Decorated₁};
 ghost use Rattle.interval.specs.Conversions.{pairOf, decPairOf, outcome, decOutcome};
-use crate::judged::one;
-use crate::judged::one_dec;
 use interval::Answer;
 use interval::DecAnswer;
 use interval::DecInterval;
 use interval::Interval;
+use judged::one;
+use judged::one_dec;
 use operations::Unary;
 use wholes::Function;
 

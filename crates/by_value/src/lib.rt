@@ -3,5 +3,4 @@
 pub mod absmax;
 pub mod arith;
 pub mod integer;
-mod judged;
 pub mod set_op;

@@ -3,12 +3,12 @@ ghost use Rattle.patterns.specs.Format.{binary64};
 ghost use Rattle.meaning.specs.Results as results;
 ghost use Rattle.meaning.specs.Statement.{Bare₂, Decorated₂};
 ghost use Rattle.interval.specs.Conversions.{pairOf, decPairOf, outcome, decOutcome};
-use crate::judged::two;
-use crate::judged::two_dec;
 use interval::Answer;
 use interval::DecAnswer;
 use interval::DecInterval;
 use interval::Interval;
+use judged::two;
+use judged::two_dec;
 use operations::Binary;
 
 // The tightest interval that contains both `x` and `y`.

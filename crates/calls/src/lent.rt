@@ -2,8 +2,8 @@
 ghost use mathlib.Core.Path.{_≡_};
 ghost use Prim.Native.Nat.{_+_, _<_, _≤_};
 ghost use lib.ListN.{length, take, drop};
-ghost use Rattle.meaning.specs.Bytes.{writePair};
-ghost use Rattle.meaning.specs.Requests.{writeDecorated, writeState};
+ghost use Rattle.meaning.specs.Bytes.{writePair, writeDecorated};
+ghost use Rattle.meaning.specs.Requests.{writeState};
 ghost use Rattle.interval.specs.Conversions.{pairOf, decPairOf};
 ghost use Rattle.end_bytes.specs.Conversions.{orderOf};
 use end_bytes::ByteOrder;

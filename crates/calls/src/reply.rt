@@ -7,6 +7,7 @@ ghost use Rattle.request_laws.specs.Calls.{Small};
 pub const UNKNOWN_OPERATION: u32 = 3;
 
 pub const NO_PLACE: u32 = 0;
+
 // The weight of the place where number and place are one number.
 const PLACE: u32 = 256;
 

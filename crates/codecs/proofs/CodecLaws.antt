@@ -3,7 +3,7 @@ use mathlib.Core.Path.{_≡_, subst}
 use mathlib.Core.List.{List}
 use Prim.Native.Nat.{ℕ}
 use lib.ListN.{length}
-use Rattle.meaning.specs.Statement.{Outcome, refused, given, Verdict, Answered₁, right₁}
+use Rattle.meaning.specs.Statement.{refused, given, Verdict, Answered₁, right₁}
 use Rattle.meaning.specs.Requests.{Called, refusedBytes, answered}
 use Rattle.request_laws.proofs.ReadLaws.{refused₁}
 

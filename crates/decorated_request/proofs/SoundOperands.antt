@@ -4,8 +4,8 @@ use mathlib.Core.List.{List}
 use Prim.Native.Nat.{ℕ}
 use Rattle.patterns.specs.Format.{binary64}
 use Rattle.meaning.specs.Statement.{Outcome, given, sound, Answered₁, right₁, Answered₂, right₂, DecPair, JudgedDecorated}
-use Rattle.meaning.specs.Bytes.{bigEndian, JudgedDecBytes, ReadDecorated}
-use Rattle.meaning.specs.Requests.{Written, Read₁, Read₂}
+use Rattle.meaning.specs.Bytes.{bigEndian, JudgedDecBytes, ReadDecorated, Written}
+use Rattle.meaning.specs.Requests.{Read₁, Read₂}
 use Rattle.request_laws.specs.Reads.{BothRead}
 use Rattle.request_laws.proofs.SoundLaws.{read-sound}
 

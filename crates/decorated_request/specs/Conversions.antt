@@ -3,8 +3,8 @@ use mathlib.Core.List.{List}
 use Prim.Native.Nat.{ℕ}
 use Rattle.meaning.specs.Statement as stated
 use Rattle.meaning.specs.Statement.{refused, given, DecPair}
-use Rattle.meaning.specs.Bytes.{bigEndian}
-use Rattle.meaning.specs.Requests.{writeState, writeDecorated, decoratedSize}
+use Rattle.meaning.specs.Bytes.{bigEndian, writeDecorated}
+use Rattle.meaning.specs.Requests.{writeState, decoratedSize}
 use Rattle.interval.specs.Conversions.{decPairOf}
 use Rattle.decorated_request.specs.declared.outcome.Outcome.{Outcome}
 use Rattle.decorated_request.specs.declared.operation.Both.{Both}

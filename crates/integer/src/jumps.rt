@@ -3,7 +3,7 @@ ghost use mathlib.Core.Logic.{_⊎_};
 ghost use Rattle.patterns.specs.Format.{binary64};
 ghost use Rattle.meaning.specs.Pairs.{Proper, endOf, setOf};
 ghost use Rattle.meaning.specs.Decorations.{SameEnd, LowersAgree, UppersAgree, HalfEnd, ZeroLower, DacTest};
-ghost use Rattle.interval.specs.Answers.{Answers};
+ghost use Rattle.flags.specs.Answers.{Answers};
 ghost use Rattle.interval.specs.Conversions.{pairOf};
 ghost use Rattle.wholes.specs.Made.{operation};
 ghost use Rattle.integer.specs.Jumping.{OneSide, HalfAt};

@@ -5,8 +5,8 @@ use Prim.Native.Nat.{ℕ}
 use Rattle.patterns.specs.Format.{Format}
 use Rattle.meaning.specs.Pairs.{Pair}
 use Rattle.meaning.specs.Statement.{Answered₁, DecPair, JudgedBare, JudgedDecorated}
-use Rattle.meaning.specs.Bytes.{ByteOrder, readPair, writePair, JudgedBytes, JudgedDecBytes, ReadDecorated}
-use Rattle.meaning.proofs.Unique.{one-answer₁, judged-bare-once}
+use Rattle.meaning.specs.Bytes.{ByteOrder, readPair, JudgedBytes, JudgedDecBytes, ReadDecorated}
+use Rattle.meaning.proofs.Unique.{one-answer₁, written-once, judged-bare-once}
 use Rattle.interval.specs.Conversions.{outcome, decOutcome}
 use Rattle.interval.specs.declared.answers.Answer.{Answer}
 use Rattle.interval.specs.declared.answers.DecAnswer.{DecAnswer}
@@ -14,18 +14,11 @@ use Rattle.interval.proofs.Codes.{answer-known, decAnswer-known}
 use Rattle.states.proofs.VerdictLaws.{judged-decorated-once, judged-bytes-once, judged-decBytes-once}
 use Rattle.states.proofs.ReadingLaws.{read-once, tidied-once}
 use Rattle.interval.proofs.Once.{tidiedDec-once}
-use Rattle.interchange.specs.Written.{AnsweredBy, Written, WrittenDec, writeDecorated, bytesAnswerOf, decBytesAnswerOf}
+use Rattle.interchange.specs.Written.{AnsweredBy, WrittenBare, WrittenDec, bytesAnswerOf, decBytesAnswerOf}
 use Rattle.interchange.specs.declared.bare.BytesAnswer.{BytesAnswer}
 use Rattle.interchange.specs.declared.decorated.DecBytesAnswer.{DecBytesAnswer}
 
 module _ (F : Format) (o : ByteOrder) where
-  written-once : (x : Pair) (bs cs : List ℕ) → Written F o x bs → Written F o x cs → bs ≡ cs
-  written-once x bs cs s t = s .bytes ∙ ap (writePair o) (tidied-once F x (s .tidied) (t .tidied) (s .is) (t .is)) ∙ sym (t .bytes)
-
-  writtenDec-once : (x : DecPair) (bs cs : List ℕ) → WrittenDec F o x bs → WrittenDec F o x cs → bs ≡ cs
-  writtenDec-once x bs cs s t =
-      s .bytes ∙ ap (writeDecorated o) (tidiedDec-once F x (s .tidied) (t .tidied) (s .is) (t .is)) ∙ sym (t .bytes)
-
   pub try-from-bytes-once : (bs : List ℕ) (r s : Answer)
       → Answered₁ (JudgedBytes F o) (λ bs z. z ≡ readPair o bs) bs (outcome r)
       → Answered₁ (JudgedBytes F o) (λ bs z. z ≡ readPair o bs) bs (outcome s) → r ≡ s
@@ -37,13 +30,13 @@ module _ (F : Format) (o : ByteOrder) where
   dec-try-from-bytes-once bs r s a b = decAnswer-known (one-answer₁ (judged-decBytes-once F o bs) (read-once F o bs) a b)
 
   pub to-bytes-once : (x : Pair) (r s : BytesAnswer)
-      → AnsweredBy bytesAnswerOf (JudgedBare F) (Written F o) x r
-      → AnsweredBy bytesAnswerOf (JudgedBare F) (Written F o) x s → r ≡ s
+      → AnsweredBy bytesAnswerOf (JudgedBare F) (WrittenBare F o) x r
+      → AnsweredBy bytesAnswerOf (JudgedBare F) (WrittenBare F o) x s → r ≡ s
   to-bytes-once x r s a b =
-      a .is ∙ ap bytesAnswerOf (one-answer₁ (judged-bare-once F x) (written-once x) (a .right) (b .right)) ∙ sym (b .is)
+      a .is ∙ ap bytesAnswerOf (one-answer₁ (judged-bare-once F x) (written-once (tidied-once F x)) (a .right) (b .right)) ∙ sym (b .is)
 
   pub dec-to-bytes-once : (x : DecPair) (r s : DecBytesAnswer)
       → AnsweredBy decBytesAnswerOf (JudgedDecorated F) (WrittenDec F o) x r
       → AnsweredBy decBytesAnswerOf (JudgedDecorated F) (WrittenDec F o) x s → r ≡ s
   dec-to-bytes-once x r s a b =
-      a .is ∙ ap decBytesAnswerOf (one-answer₁ (judged-decorated-once F x) (writtenDec-once x) (a .right) (b .right)) ∙ sym (b .is)
+      a .is ∙ ap decBytesAnswerOf (one-answer₁ (judged-decorated-once F x) (written-once (tidiedDec-once F x)) (a .right) (b .right)) ∙ sym (b .is)

@@ -14,7 +14,7 @@ use Rattle.patterns.proofs.SignLaws.{magnitude-positive}
 use Rattle.meaning.specs.Pairs.{Pair, NaN, NaNs, Bare, Canonical}
 use Rattle.meaning.specs.Decorations.{Decoration, Ill, decorationByte}
 use Rattle.meaning.specs.Statement.{sound, given, Answered₁, right₁, DecPair, naI, Agrees, JudgedDecorated}
-use Rattle.meaning.specs.Bytes.{ByteOrder, readPair, writePair, JudgedBytes, bytesGood, SaysDecoration, BytesEnds, canonicalEnds, nanEnds, JudgedDecBytes, decBytesGood, ReadDecorated, readNaI, readInterval, Tidied}
+use Rattle.meaning.specs.Bytes.{ByteOrder, readPair, writePair, JudgedBytes, bytesGood, SaysDecoration, BytesEnds, canonicalEnds, nanEnds, JudgedDecBytes, decBytesGood, ReadDecorated, readNaI, readInterval, Tidied, writeDecorated}
 use Rattle.interval.specs.Tidy.{tidyLower, tidyUpper}
 use Rattle.interval.specs.Values.{TidiedDec, tidiedNaI, tidiedInterval}
 use Rattle.interval.proofs.JudgeLaws.{lower-pattern, upper-pattern}
@@ -25,7 +25,7 @@ use Rattle.states.proofs.ReadingLaws.{tidied-once}
 use Rattle.interval.proofs.Once.{tidiedDec-once}
 use Rattle.end_bytes.proofs.PlaceLaws.{length-pair}
 use Rattle.end_bytes.proofs.DigitLaws.{Bytes, pair-read, pair-written}
-use Rattle.interchange.specs.Written.{Written, WrittenDec, writeDecorated}
+use Rattle.interchange.specs.Written.{WrittenBare, WrittenDec}
 
 -- The NaN that is written is one.
 quiet-is : (F : Format) → NaN F (quietNaN F)
@@ -53,23 +53,23 @@ module _ (F : Format) (eight : 2 * signBit F ≤ 256 ^ 8) (o : ByteOrder) where
   upper-fits (inr e) = lt-of-lt-of-le (lower-pattern F (inr (e .upperIs))) eight
 
   pub read-written : (bs : List ℕ) → length bs ≡ 16 → Bytes bs → {z : Pair} {w : List ℕ}
-      → Answered₁ (JudgedBytes F o) (λ bs z. z ≡ readPair o bs) bs (given z) → Written F o z w → w ≡ bs
+      → Answered₁ (JudgedBytes F o) (λ bs z. z ≡ readPair o bs) bs (given z) → WrittenBare F o z w → w ≡ bs
   read-written bs long all {z} (right₁ (bytesGood k) q) t =
-      t .bytes
-      ∙ ap (writePair o) (tidied-once F z (t .tidied) z (t .is) (self-tidied F (subst⁻¹ (Canonical F) q k)) ∙ q)
+      t .written
+      ∙ ap (writePair o) (tidied-once F z (t .answer) z (t .right) (self-tidied F (subst⁻¹ (Canonical F) q k)) ∙ q)
       ∙ pair-written o bs (le-of-eq (sym long)) all ∙ take-all 16 bs (le-of-eq long)
 
-  pub written-read : {x : Pair} {bs : List ℕ} (t : Written F o x bs)
-      → Answered₁ (JudgedBytes F o) (λ bs z. z ≡ readPair o bs) bs (given (t .tidied))
+  pub written-read : {x : Pair} {bs : List ℕ} (t : WrittenBare F o x bs)
+      → Answered₁ (JudgedBytes F o) (λ bs z. z ≡ readPair o bs) bs (given (t .answer))
   written-read {bs = bs} t = right₁ (bytesGood (subst⁻¹ (Canonical F) read canonical)) (sym read)
     where
-      canonical : Canonical F (t .tidied)
-      canonical = t .is .canonical
+      canonical : Canonical F (t .answer)
+      canonical = t .right .canonical
 
-      read : readPair o bs ≡ t .tidied
+      read : readPair o bs ≡ t .answer
       read =
-          ap (readPair o) (t .bytes ∙ sym (append-nil (writePair o (t .tidied))))
-          ∙ pair-read o (t .tidied) [] (lower-fits (canonical .bare)) (upper-fits (canonical .bare))
+          ap (readPair o) (t .written ∙ sym (append-nil (writePair o (t .answer))))
+          ∙ pair-read o (t .answer) [] (lower-fits (canonical .bare)) (upper-fits (canonical .bare))
 
   -- The seventeenth byte is had back.
   byte-written : (bs : List ℕ) (d : Decoration) → length bs ≡ 17 → Bytes bs → SaysDecoration bs d
@@ -85,15 +85,15 @@ module _ (F : Format) (eight : 2 * signBit F ≤ 256 ^ 8) (o : ByteOrder) where
   dec-read-written bs long all (right₁ j (readNaI n)) t =
       inl (
         n,
-        t .bytes
+        t .written
             ∙ ap (writeDecorated o)
-            (tidiedDec-once F (naI F) (t .tidied) (naI F) (t .is) (tidiedNaI (record { lowerIs = quiet-is F; upperIs = quiet-is F }))),
+            (tidiedDec-once F (naI F) (t .answer) (naI F) (t .right) (tidiedNaI (record { lowerIs = quiet-is F; upperIs = quiet-is F }))),
       )
   dec-read-written bs long all {z} (right₁ (decBytesGood e r b a) (readInterval d s n)) t =
       inr
-      (t .bytes
+      (t .written
       ∙ ap (writeDecorated o)
-      (tidiedDec-once F z (t .tidied) z (t .is) (tidiedInterval n (self-tidied F (only-canonical n b)) refl))
+      (tidiedDec-once F z (t .answer) z (t .right) (tidiedInterval n (self-tidied F (only-canonical n b)) refl))
       ∙ byte-written bs d long all s)
 
   -- The bytes of a decorated interval give its ends and its decoration back.
@@ -148,8 +148,8 @@ module _ (F : Format) (eight : 2 * signBit F ≤ 256 ^ 8) (o : ByteOrder) where
           subst⁻¹ (λ (y : DecPair). Agrees F y) (λ i. record { pair = same i; decoration = d i }) (tidied-agrees F x bare agrees)
 
   pub dec-written-read : {x : DecPair} {bs : List ℕ} → JudgedDecorated F x sound → (t : WrittenDec F o x bs)
-      → Answered₁ (JudgedDecBytes F o) (ReadDecorated F o) bs (given (t .tidied))
-  dec-written-read {x} {bs} j t = go (t .is) (t .bytes)
+      → Answered₁ (JudgedDecBytes F o) (ReadDecorated F o) bs (given (t .answer))
+  dec-written-read {x} {bs} j t = go (t .right) (t .written)
     where
       go : {z : DecPair} → TidiedDec F x z → bs ≡ writeDecorated o z → Answered₁ (JudgedDecBytes F o) (ReadDecorated F o) bs (given z)
       go (tidiedNaI n) e = back-nai e

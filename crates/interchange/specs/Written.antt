@@ -1,32 +1,23 @@
 -- The right bytes, and the answer that holds them.
 use mathlib.Core.Path.{_≡_}
-use mathlib.Core.List.{List, [], _∷_, _++_}
+use mathlib.Core.List.{List}
 use Prim.Native.Nat.{ℕ}
 use lib.ListN.{replicate}
 use Rattle.patterns.specs.Format.{Format}
 use Rattle.meaning.specs.Pairs.{Pair}
-use Rattle.meaning.specs.Decorations.{decorationByte}
 use Rattle.meaning.specs.Statement.{Outcome, refused, given, Verdict, Answered₁, DecPair}
-use Rattle.meaning.specs.Bytes.{ByteOrder, writePair, Tidied}
+use Rattle.meaning.specs.Bytes.{ByteOrder, writePair, writeDecorated, Written, Tidied}
 use Rattle.interval.specs.Values.{TidiedDec}
 use Rattle.interchange.specs.declared.bare.BytesAnswer.{BytesAnswer}
 use Rattle.interchange.specs.declared.decorated.DecBytesAnswer.{DecBytesAnswer}
 
--- "Lower end, upper end, eight bytes each. Decorated: a seventeenth byte".
-abbrev pub writeDecorated : ByteOrder → DecPair → List ℕ
-writeDecorated o x = writePair o (x .pair) ++ (decorationByte (x .decoration) ∷ [])
-
 -- The bytes of a bare interval: "A zero lower end is written -0.0 and a zero upper end +0.0".
-pub record Written (F : Format) (o : ByteOrder) (x : Pair) (bs : List ℕ) : Type 0 where
-  pub tidied : Pair
-  pub is : Tidied F x tidied
-  pub bytes : bs ≡ writePair o tidied
+abbrev pub WrittenBare : Format → ByteOrder → Pair → List ℕ → Type 0
+WrittenBare F o x bs = Written (writePair o) (Tidied F x) bs
 
 -- The bytes of a decorated interval; of NaI, "7FF8000000000000 twice is written".
-pub record WrittenDec (F : Format) (o : ByteOrder) (x : DecPair) (bs : List ℕ) : Type 0 where
-  pub tidied : DecPair
-  pub is : TidiedDec F x tidied
-  pub bytes : bs ≡ writeDecorated o tidied
+abbrev pub WrittenDec : Format → ByteOrder → DecPair → List ℕ → Type 0
+WrittenDec F o x bs = Written (writeDecorated o) (TidiedDec F x) bs
 
 -- The answer of an outcome: number 0 with the bytes; of a refusal its number and place, and zero bytes.
 abbrev pub bytesAnswerOf : Outcome (List ℕ) → BytesAnswer

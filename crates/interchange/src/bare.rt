@@ -5,7 +5,7 @@ ghost use Rattle.meaning.specs.Statement.{Answered₁, JudgedBare};
 ghost use Rattle.meaning.specs.Bytes.{bigEndian, littleEndian, readPair, JudgedBytes};
 ghost use Rattle.interval.specs.Conversions.{pairOf, outcome};
 ghost use Rattle.end_bytes.specs.Conversions.{orderOf};
-ghost use Rattle.interchange.specs.Written.{AnsweredBy, Written, bytesAnswerOf};
+ghost use Rattle.interchange.specs.Written.{AnsweredBy, WrittenBare, bytesAnswerOf};
 use crate::canonical::is_canonical;
 use end_bytes::ByteOrder;
 use end_bytes::read_ends;
@@ -40,7 +40,7 @@ fn read(bytes: [u8; 16], order: ByteOrder) -> Answer
 
 // The bytes in either order.
 fn write(x: Interval, order: ByteOrder) -> BytesAnswer
-    ensures { λ r. ⌜ AnsweredBy bytesAnswerOf (JudgedBare binary64) (Written binary64 (orderOf order)) (pairOf x) r ⌝ }
+    ensures { λ r. ⌜ AnsweredBy bytesAnswerOf (JudgedBare binary64) (WrittenBare binary64 (orderOf order)) (pairOf x) r ⌝ }
 {
     match judge(x) {
         Verdict::Sound => {
@@ -76,14 +76,14 @@ pub fn try_from_le_bytes(bytes: [u8; 16]) -> Answer
 
 // The big-endian bytes of an interval.
 pub fn to_be_bytes(x: Interval) -> BytesAnswer
-    ensures { λ r. ⌜ AnsweredBy bytesAnswerOf (JudgedBare binary64) (Written binary64 bigEndian) (pairOf x) r ⌝ }
+    ensures { λ r. ⌜ AnsweredBy bytesAnswerOf (JudgedBare binary64) (WrittenBare binary64 bigEndian) (pairOf x) r ⌝ }
 {
     write(x, ByteOrder::Big)
 }
 
 // The little-endian bytes of an interval.
 pub fn to_le_bytes(x: Interval) -> BytesAnswer
-    ensures { λ r. ⌜ AnsweredBy bytesAnswerOf (JudgedBare binary64) (Written binary64 littleEndian) (pairOf x) r ⌝ }
+    ensures { λ r. ⌜ AnsweredBy bytesAnswerOf (JudgedBare binary64) (WrittenBare binary64 littleEndian) (pairOf x) r ⌝ }
 {
     write(x, ByteOrder::Little)
 }

@@ -2,7 +2,7 @@
 ghost use Rattle.patterns.specs.Format.{binary64};
 ghost use Rattle.meaning.specs.Pairs.{Canonical};
 ghost use Rattle.meaning.specs.Bytes.{BytesEnds};
-ghost use Rattle.interval.specs.Answers.{Answers};
+ghost use Rattle.flags.specs.Answers.{Answers};
 ghost use Rattle.interval.specs.Conversions.{pairOf};
 use interval::Interval;
 use interval::PLUS_ZERO;

@@ -12,8 +12,8 @@ use Rattle.meaning.specs.Pairs.{Pair, NaN, minusInfinity, Proper, EmptyPair, Ba
 use Rattle.meaning.specs.Decorations.{Decoration, Ill, Trv, Def, Dac, Com, decorationByte}
 use Rattle.meaning.specs.Statement.{Ends, Agrees}
 use Rattle.meaning.proofs.PairLaws.{infinity-not-finite, lower-not-infinity}
-use Rattle.interval.specs.Answers.{Answers}
-use Rattle.interval.proofs.AnswerLaws.{answers-iff}
+use Rattle.flags.specs.Answers.{Answers}
+use Rattle.flags.proofs.AnswerLaws.{answers-iff}
 
 -- Decorations with different bytes differ.
 pub apart : (d e : Decoration) → T (not (eqb (decorationByte d) (decorationByte e))) → d ≡ e → ⊥

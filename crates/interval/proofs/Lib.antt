@@ -1,5 +1,4 @@
 -- Laws of keys, pairs and decorations.
-pub mod AnswerLaws
 pub mod KeyLaws
 pub mod JudgeLaws
 pub mod AgreeLaws

@@ -7,7 +7,7 @@ use Rattle.meaning.specs.Pairs.{Pair}
 use Rattle.meaning.specs.Decorations.{Decoration}
 use Rattle.meaning.specs.Statement.{DecPair}
 use Rattle.states.proofs.ReadingLaws.{tidied-once}
-use Rattle.interval.specs.Answers.{Answers, affirmed, denied}
+use Rattle.flags.specs.Answers.{Answers, affirmed, denied}
 use Rattle.interval.specs.Values.{TidiedDec, tidiedNaI, tidiedInterval, SetDec, setNaI, setInterval, LowerOf, UpperOf, Part, PartOf, isPart, isMissing}
 
 pub answers-once : (P : Type 0) (b c : Bool) → Answers P b → Answers P c → b ≡ c

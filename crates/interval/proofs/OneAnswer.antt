@@ -7,7 +7,7 @@ use Rattle.meaning.specs.Decorations.{Decoration, Com, Point}
 use Rattle.meaning.specs.Statement.{Outcome, Verdict, Answered₁, JudgedBare, JudgedDecorated}
 use Rattle.meaning.specs.Bytes.{Tidied}
 use Rattle.meaning.proofs.Unique.{one-answer₁, judged-bare-once}
-use Rattle.interval.specs.Answers.{Answers}
+use Rattle.flags.specs.Answers.{Answers}
 use Rattle.interval.specs.Conversions.{outcome, decOutcome, boolOutcome, endOutcome, decorationOutcome, partOutcome}
 use Rattle.interval.specs.Values.{TidiedDec, SetDec, LowerOf, UpperOf, PartOf, Common}
 use Rattle.interval.proofs.Codes.{answer-known, decAnswer-known, boolAnswer-known, endAnswer-known, decorationAnswer-known, partAnswer-known}

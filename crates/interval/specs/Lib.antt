@@ -1,5 +1,4 @@
 -- What the contracts of intervals cite.
-pub mod Answers
 pub mod Conversions
 pub mod Keys
 pub mod Tidy

@@ -6,7 +6,7 @@ ghost use Rattle.meaning.specs.Pairs.{setOf};
 ghost use Rattle.meaning.specs.Decorations.{Point};
 ghost use Rattle.meaning.specs.Statement.{Answered₁, JudgedBare};
 ghost use Rattle.meaning.specs.Bytes.{Tidied};
-ghost use Rattle.interval.specs.Answers.{Answers};
+ghost use Rattle.flags.specs.Answers.{Answers};
 ghost use Rattle.interval.specs.Conversions.{pairOf, outcome, boolOutcome, endOutcome};
 ghost use Rattle.interval.specs.Values.{LowerOf, UpperOf, Common};
 use crate::answers::Answer;

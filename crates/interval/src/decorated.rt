@@ -4,7 +4,7 @@ ghost use Rattle.patterns.specs.Format.{binary64};
 ghost use Rattle.meaning.specs.Pairs.{NaNs};
 ghost use Rattle.meaning.specs.Decorations as meant;
 ghost use Rattle.meaning.specs.Statement.{Answered₁, JudgedBare, JudgedDecorated};
-ghost use Rattle.interval.specs.Answers.{Answers};
+ghost use Rattle.flags.specs.Answers.{Answers};
 ghost use Rattle.interval.specs.Conversions.{pairOf, decorationOf, decPairOf, decOutcome, boolOutcome, decorationOutcome, partOutcome};
 ghost use Rattle.interval.specs.Values.{TidiedDec, SetDec, PartOf};
 use crate::answers::BoolAnswer;

@@ -4,7 +4,7 @@ ghost use Rattle.patterns.specs.Format.{binary64};
 ghost use Rattle.meaning.specs.Sets.{span, unbounded};
 ghost use Rattle.meaning.specs.Pairs.{Bare, setOf};
 ghost use Rattle.meaning.specs.Decorations.{Point};
-ghost use Rattle.interval.specs.Answers.{Answers};
+ghost use Rattle.flags.specs.Answers.{Answers};
 ghost use Rattle.interval.specs.Conversions.{pairOf};
 use crate::order::less_or_equal;
 use crate::types::INFINITY;

@@ -5,7 +5,7 @@ ghost use Rattle.patterns.specs.Format.{binary64, infinity};
 ghost use Rattle.patterns.specs.Value.{Finite};
 ghost use Rattle.meaning.specs.Pairs.{NaN, Proper, EmptyPair, Bare, NaNs, minusInfinity};
 ghost use Rattle.meaning.specs.Statement.{Ends, Agrees, JudgedBare, JudgedDecorated};
-ghost use Rattle.interval.specs.Answers.{Answers};
+ghost use Rattle.flags.specs.Answers.{Answers};
 ghost use Rattle.interval.specs.Conversions.{pairOf, decPairOf, verdictOf};
 use crate::answers::BAD_DECORATION;
 use crate::answers::BAD_ENDS;

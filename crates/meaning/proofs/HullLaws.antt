@@ -29,8 +29,8 @@ at-most (atMost h) = h
 below : {x y : Fraction} → Under x (at y) → x ≼ y
 below (under h) = h
 
-mirror-number : (F : Format) {q : Fraction} → OfFormat F q → OfFormat F (negated q)
-mirror-number F {q} h =
+pub negated-of-format : (F : Format) {q : Fraction} → OfFormat F q → OfFormat F (negated q)
+negated-of-format F {q} h =
     record {
       pattern = opposite F (h .pattern);
       isFinite = finite-opposite F (h .isFinite);
@@ -39,7 +39,7 @@ mirror-number F {q} h =
 
 mirror-format : (F : Format) {e : End} → EndOfFormat F e → EndOfFormat F (mirrorEnd e)
 mirror-format F formatInfinite = formatInfinite
-mirror-format F (formatNumber h) = formatNumber (mirror-number F h)
+mirror-format F (formatNumber h) = formatNumber (negated-of-format F h)
 
 -- All of S are under its true upper bound rounded upward.
 results-under : {F : Format} {S : Fraction → Type 0} {u e : End} → Supremum S u → RoundedUp F u e → (r : Fraction) → S r → Under r e

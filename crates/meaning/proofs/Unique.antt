@@ -1,5 +1,6 @@
 -- Two answers that satisfy a statement are equal, once for all operations and formats.
 use mathlib.Core.Path.{_≡_, refl, sym, _∙_, ap, subst₂}
+use mathlib.Core.List.{List}
 use mathlib.Core.Logic.{_⊎_, inl, inr, ⊎-elim}
 use Prim.Native.Nat.{ℕ, _+_, _*_, _^_, _<_}
 use native.Mathlib.Nat.{eq-of-mul-eq-mul-right}
@@ -15,6 +16,7 @@ use Rattle.meaning.specs.Sets.{End, at, unbounded, empty, span, Inside, 
 use Rattle.meaning.specs.Pairs.{Pair, worth, minusInfinity, Proper, Bare, Canonical, endOf, setOf}
 use Rattle.meaning.specs.Decorations.{SameEnd, sameNumber}
 use Rattle.meaning.specs.Statement.{Outcome, given, Verdict, sound, wrong, Answered₁, first₁, right₁, Answered₂, first₂, second₂, right₂, JudgedBare, bareFive, bareGood, HullOf, Bare₁, Bare₂}
+use Rattle.meaning.specs.Bytes.{Written}
 use Rattle.meaning.specs.Points.{Unary}
 use Rattle.meaning.specs.Results.{Operation, Result₁, Result₂}
 use Rattle.meaning.proofs.SetLaws.{same-upper, same-lower, some-member}
@@ -101,6 +103,13 @@ canonical-unique F p q h k same = go (h .bare) (k .bare)
     go (inr f) (inl g) =
         absurd (not-empty (proper-ordered F q g) (subst₂ SameSet (set-empty F p f) (set-proper F q g) same .1))
 
+-- At most one value.
+abbrev pub One : {A : Type 0} → (A → Type 0) → Type 0
+One {A} R = (z w : A) → R z → R w → z ≡ w
+
+pub written-once : {A : Type 0} {write : A → List ℕ} {Right : A → Type 0} → One Right → One (Written write Right)
+written-once {write = write} one z w h k = h .written ∙ ap write (one (h .answer) (k .answer) (h .right) (k .right)) ∙ sym (k .written)
+
 pub one-answer₁ : {A B : Type 0} {Judged : A → Verdict → Type 0} {Right : A → B → Type 0} {x : A} {o p : Outcome B}
     → ((v w : Verdict) → Judged x v → Judged x w → v ≡ w)
     → ((z w : B) → Right x z → Right x w → z ≡ w)
@@ -123,6 +132,20 @@ one-answer₂ {y = y} once single (second₂ {n} j i) (right₂ k l r) = let h :
 one-answer₂ {x = x} once single (right₂ j i r) (first₂ {n} k) = let h : sound ≡ wrong n = once x sound (wrong n) j k in cc
 one-answer₂ {y = y} once single (right₂ j i r) (second₂ {n} k l) = let h : sound ≡ wrong n = once y sound (wrong n) i l in cc
 one-answer₂ once single (right₂ {z} j i r) (right₂ {z = w} k l s) = ap given (single z w r s)
+
+-- Only the answers to sound operands count.
+sound-answer : {A B : Type 0} {Judged : A → Verdict → Type 0} {Right : A → A → B → Type 0} {x y : A} {o : Outcome B}
+    → Answered₂ Judged Right x y o → Answered₂ Judged (λ x y z. Judged x sound × Judged y sound × Right x y z) x y o
+sound-answer (first₂ h) = first₂ h
+sound-answer (second₂ h k) = second₂ h k
+sound-answer (right₂ h k r) = right₂ h k (h, k, r)
+
+pub one-sound-answer : {A B : Type 0} {Judged : A → Verdict → Type 0} {Right : A → A → B → Type 0} {x y : A} {o p : Outcome B}
+    → ((a : A) (v w : Verdict) → Judged a v → Judged a w → v ≡ w)
+    → (Judged x sound → Judged y sound → (z w : B) → Right x y z → Right x y w → z ≡ w)
+    → Answered₂ Judged Right x y o → Answered₂ Judged Right x y p → o ≡ p
+one-sound-answer once single h k =
+    one-answer₂ once (λ z w r s. single (r .0) (r .1) z w (r .2) (s .2)) (sound-answer h) (sound-answer k)
 
 -- One verdict on a bare operand, and one right bare answer.
 pub judged-bare-once : (F : Format) (x : Pair) (v w : Verdict) → JudgedBare F x v → JudgedBare F x w → v ≡ w

@@ -40,6 +40,16 @@ readPair o bs = record { lower = readEnd o (take 8 bs); upper = readEnd o (take 
 abbrev pub writePair : ByteOrder → Pair → List ℕ
 writePair o p = writeEnd o (p .lower) ++ writeEnd o (p .upper)
 
+-- "Decorated: a seventeenth byte"
+abbrev pub writeDecorated : ByteOrder → DecPair → List ℕ
+writeDecorated o x = writePair o (x .pair) ++ (decorationByte (x .decoration) ∷ [])
+
+-- The bytes of a right answer.
+pub record Written {A : Type 0} (write : A → List ℕ) (Right : A → Type 0) (bytes : List ℕ) : Type 0 where
+  pub answer : A
+  pub right : Right answer
+  pub written : bytes ≡ write answer
+
 -- Sixteen bytes. 5 also where a zero has the other sign: "the other zero is refused".
 pub data JudgedBytes (F : Format) (o : ByteOrder) (bs : List ℕ) : Verdict → Type 0 where
   bytesFive : (Canonical F (readPair o bs) → ⊥) → JudgedBytes F o bs (wrong 5)

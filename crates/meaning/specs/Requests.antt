@@ -1,6 +1,6 @@
 -- Requests and codecs on bytes, by document 01: "A request is one operation number and two operands, big endian".
 use mathlib.Core.Path.{_≡_}
-use mathlib.Core.List.{List, [], _∷_, _++_}
+use mathlib.Core.List.{List, [], _∷_}
 use Prim.Native.Nat.{ℕ, zero, suc, _+_, _-_}
 use lib.ListN.{length, take, drop, getD}
 use Rattle.patterns.specs.Format.{Format}
@@ -8,10 +8,9 @@ use Rattle.meaning.specs.Sets.{Set}
 use Rattle.meaning.specs.Pairs.{setOf}
 use Rattle.meaning.specs.Points.{Unary, neg, abs, ceil, floor, round, roundTiesEven, sign, trunc, add, sub, mul, div, max, min}
 use Rattle.meaning.specs.Results.{Operation, point, convexHull, intersection, Result₁, Result₂}
-use Rattle.meaning.specs.Decorations.{decorationByte}
 use Rattle.meaning.specs.Statement.{DecPair, Outcome, refused, given, Answered₁, Answered₂, HullOf, RightDec₁, RightDec₂}
 use Rattle.meaning.specs.Overlap.{OverlapNumber, DecoratedOverlap}
-use Rattle.meaning.specs.Bytes.{ByteOrder, bigEndian, readPair, writePair, JudgedBytes, JudgedDecBytes, ReadDecorated}
+use Rattle.meaning.specs.Bytes.{ByteOrder, bigEndian, readPair, writePair, writeDecorated, Written, JudgedBytes, JudgedDecBytes, ReadDecorated}
 
 -- What a request asks for: an operation of one operand, of two, or overlap.
 pub data Asked : Type 0 where
@@ -51,16 +50,6 @@ bareSize = 16
 
 abbrev pub decoratedSize : ℕ
 decoratedSize = 17
-
--- Seventeen bytes of a decorated interval.
-abbrev pub writeDecorated : ByteOrder → DecPair → List ℕ
-writeDecorated o x = writePair o (x .pair) ++ (decorationByte (x .decoration) ∷ [])
-
--- The bytes of a right answer: an interval in interchange form.
-pub record Written {A : Type 0} (write : A → List ℕ) (Right : A → Type 0) (out : List ℕ) : Type 0 where
-  pub answer : A
-  pub right : Right answer
-  pub written : out ≡ write answer
 
 -- "Overlap answers its state number, then zero bytes."
 abbrev pub writeState : (size : ℕ) → ℕ → List ℕ

@@ -4,7 +4,7 @@ ghost use Rattle.patterns.specs.Format.{binary64};
 ghost use Rattle.meaning.specs.Pairs.{EmptyPair, Bare, NaNs};
 ghost use Rattle.meaning.specs.Decorations.{lowerOf};
 ghost use Rattle.meaning.specs.Statement.{JudgedDecorated, sound};
-ghost use Rattle.interval.specs.Answers.{Answers};
+ghost use Rattle.flags.specs.Answers.{Answers};
 ghost use Rattle.interval.specs.Conversions.{pairOf, decorationOf, decPairOf};
 ghost use Rattle.operands.specs.Sorted.{Sorted};
 use interval::DecInterval;

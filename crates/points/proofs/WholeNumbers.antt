@@ -1,21 +1,21 @@
 -- Whole numbers near a number of the format are numbers of the format, for any format.
-use mathlib.Core.Path.{_≡_, subst⁻¹}
+use mathlib.Core.Path.{_≡_}
 use mathlib.Core.Logic.{_⊎_, inl, inr, ⊎-elim}
 use Prim.Native.Nat.{ℕ, _+_, _*_, _-_, _^_, _<_, _≤_}
 use native.Mathlib.Nat.{lt-trans, lt-of-mul-lt-mul-right, mul-pos}
 use native.Mathlib.Omega.{arith}
 use lib.Pow.{pow-pos}
 use Rattle.patterns.specs.Format.{Format, infinity, signBit}
-use Rattle.patterns.specs.Value.{value, plus, minus, opposite, Finite}
+use Rattle.patterns.specs.Value.{value, plus, minus, Finite}
 use Rattle.patterns.proofs.ValueLaws.{le-or-lt}
-use Rattle.patterns.proofs.SignLaws.{infinity-below, plus-positive, minus-positive, plus-negative, minus-negative, finite-opposite}
+use Rattle.patterns.proofs.SignLaws.{infinity-below, plus-positive, minus-positive, plus-negative, minus-negative}
 use Rattle.patterns.proofs.UpLaws.{by-finite}
 use Rattle.meaning.specs.Fraction.{Fraction, _≺_, _≈_, _⊕_, negated, whole, Whole}
 use Rattle.meaning.specs.Points.{Unary, Floor, Ceil, Nearest, Sign, Makes₁}
 use Rattle.meaning.specs.Pairs.{worth}
 use Rattle.meaning.specs.Hull.{OfFormat}
 use Rattle.meaning.proofs.FractionLaws.{le-or-le, eq-trans, eq-le, eq-ge, antisymm, le-lt-trans, lt-le-trans, add-right, neg-eq}
-use Rattle.meaning.proofs.PairLaws.{worth-opposite}
+use Rattle.meaning.proofs.HullLaws.{negated-of-format}
 use Rattle.points.specs.Functions.{Mirrors, ceilFloor, floorCeil, roundRound, evenEven, signSign, truncTrunc}
 use Rattle.points.proofs.SumLaws.{lt-mirror, lt-one, half-lt-one}
 use Rattle.points.proofs.WholeLaws.{apart, whole-is, whole-negated}
@@ -24,13 +24,6 @@ use Rattle.points.proofs.Naturals.{multiple-or-small, natural-of-format
 
 pub same-of-format : (F : Format) {q r : Fraction} → OfFormat F q → r ≈ q → OfFormat F r
 same-of-format F f e = record { pattern = f .pattern; isFinite = f .isFinite; is = eq-trans e (f .is) }
-
-pub negated-of-format : (F : Format) {q : Fraction} → OfFormat F q → OfFormat F (negated q)
-negated-of-format F {q} f = record {
-  pattern = opposite F (f .pattern);
-  isFinite = finite-opposite F (f .isFinite);
-  is = subst⁻¹ (λ (w : Fraction). negated q ≈ w) (worth-opposite F (f .isFinite .pattern)) (neg-eq (f .is));
-}
 
 -- A natural number less than 1 above a number below 2 ^ h is at most 2 ^ h.
 natural-small : (h n : ℕ) (w : Fraction) → w .up < 2 ^ h * w .over → whole n ≺ w ⊕ whole 1 → n ≤ 2 ^ h

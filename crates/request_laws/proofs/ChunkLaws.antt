@@ -1,14 +1,14 @@
 -- A chunk of requests has one output, and a run that repeats its first reply is none.
-use mathlib.Core.Path.{_≡_, refl, sym, _∙_, ap, ap₂, subst, subst⁻¹}
+use mathlib.Core.Path.{_≡_, refl, sym, _∙_, ap, ap₂}
 use mathlib.Core.List.{List, _∷_, _++_}
 use Prim.Native.Nat.{ℕ, zero, suc, _*_, _+_, _<_, _≤_}
 use native.Mathlib.Omega.{arith}
 use lib.Dec.{lit<, lit≤}
-use lib.ListN.{length, getD, take, drop, take-append-drop}
+use lib.ListN.{length, getD, take, take-append-drop}
 use lib.Seq.{take-add}
 use Rattle.patterns.specs.Format.{binary64}
-use Rattle.meaning.specs.Bytes.{bigEndian}
-use Rattle.meaning.specs.Requests.{zeros, decoratedSize, writeDecorated, DecoratedRequest, unknown}
+use Rattle.meaning.specs.Bytes.{bigEndian, writeDecorated}
+use Rattle.meaning.specs.Requests.{zeros, decoratedSize, DecoratedRequest, unknown}
 use Rattle.meaning.proofs.OperationNumbers.{not-zero}
 use Rattle.cases.specs.Table.{two}
 use Rattle.request_laws.specs.Calls.{Left, Leaves}

@@ -1,5 +1,5 @@
 -- A request that is answered, bare and decorated: [1, 1] + [1, 1] = [2, 2].
-use mathlib.Core.Path.{_≡_, refl, ap}
+use mathlib.Core.Path.{refl, ap}
 use mathlib.Core.List.{List, _∷_, _++_}
 use Prim.Native.Nat.{ℕ}
 use native.Mathlib.Omega.{arith}
@@ -9,11 +9,11 @@ use Rattle.patterns.specs.Value.{value, magnitude, plus, minus, opposite}
 use Rattle.meaning.specs.Fraction.{_⊕_, _⊗_}
 use Rattle.meaning.specs.Points.{add}
 use Rattle.meaning.specs.Results.{Result₂, point}
-use Rattle.meaning.specs.Pairs.{Pair, Bare, Canonical, minusInfinity, endOf, setOf}
+use Rattle.meaning.specs.Pairs.{Bare, Canonical, minusInfinity, endOf, setOf}
 use Rattle.meaning.specs.Decorations.{Com}
-use Rattle.meaning.specs.Statement.{DecPair, given, sound, HullOf, RightDec₂, right₂, Decorated₂, Agrees, JudgedDecorated, decoratedGood}
-use Rattle.meaning.specs.Bytes.{bigEndian, bytesGood, JudgedDecBytes, decBytesGood, canonicalEnds, ReadDecorated, readInterval, writePair}
-use Rattle.meaning.specs.Requests.{binary, operationNumber, zeros, bareSize, decoratedSize, writeDecorated, answered, BareRequest, DecoratedRequest}
+use Rattle.meaning.specs.Statement.{DecPair, given, sound, HullOf, RightDec₂, right₂, Decorated₂, Agrees, decoratedGood}
+use Rattle.meaning.specs.Bytes.{bigEndian, bytesGood, JudgedDecBytes, decBytesGood, canonicalEnds, ReadDecorated, readInterval, writePair, writeDecorated}
+use Rattle.meaning.specs.Requests.{binary, operationNumber, zeros, bareSize, decoratedSize, answered, BareRequest, DecoratedRequest}
 use Rattle.states.proofs.PairLaws.{bare-not-nans}
 use Rattle.exact_ends.specs.Answer.{adding}
 use Rattle.cases.specs.Table.{only, one, two, decoratedBy}

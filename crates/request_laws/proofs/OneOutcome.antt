@@ -3,15 +3,14 @@ use mathlib.Core.Path.{_≡_, sym, _∙_}
 use mathlib.Core.List.{List}
 use Prim.Native.Nat.{ℕ}
 use Rattle.patterns.specs.Format.{Format}
-use Rattle.meaning.specs.Statement.{Answered₁}
 use Rattle.meaning.specs.Bytes.{ByteOrder}
 use Rattle.meaning.specs.Requests.{BareRequest, DecoratedRequest, BareCodec, DecoratedCodec}
-use Rattle.meaning.proofs.Unique.{one-answer₁}
+use Rattle.meaning.proofs.Unique.{one-answer₁, written-once}
 use Rattle.states.proofs.VerdictLaws.{judged-bytes-once, judged-decBytes-once}
 use Rattle.states.proofs.ReadingLaws.{read-once}
 use Rattle.request_laws.specs.Calls.{Left, Statement, Leaves}
 use Rattle.request_laws.proofs.CalledLaws.{called-once}
-use Rattle.request_laws.proofs.OutcomeLaws.{written-once, bare-outcome-once, decorated-outcome-once, requested-once}
+use Rattle.request_laws.proofs.OutcomeLaws.{bare-outcome-once, decorated-outcome-once, requested-once}
 
 -- A statement of what a call leaves, for any input and any lent output, allows one thing.
 abbrev pub OneLeft : Statement → Type 0

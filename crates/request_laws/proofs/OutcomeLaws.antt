@@ -1,14 +1,14 @@
 -- The bytes of a request's operands have one outcome for each operation.
-use mathlib.Core.Path.{_≡_, sym, _∙_, ap, subst}
+use mathlib.Core.Path.{subst}
 use mathlib.Core.List.{List}
 use Prim.Native.Nat.{ℕ}
 use Rattle.patterns.specs.Format.{Format}
 use Rattle.meaning.specs.Pairs.{setOf}
 use Rattle.meaning.specs.Results.{Result₁, Result₂}
-use Rattle.meaning.specs.Statement.{Outcome, Verdict, sound, Answered₁, Answered₂, first₂, second₂, right₂, DecPair}
-use Rattle.meaning.specs.Bytes.{ByteOrder, bigEndian, readPair, JudgedDecBytes, ReadDecorated}
-use Rattle.meaning.specs.Requests.{Asked, unary, binary, overlap, Written, BareOutcome, Read₁, Read₂, DecoratedOutcome, Requested, firstOperand, secondOperand}
-use Rattle.meaning.proofs.Unique.{one-answer₁, one-answer₂, hull-once}
+use Rattle.meaning.specs.Statement.{Outcome, DecPair}
+use Rattle.meaning.specs.Bytes.{bigEndian, readPair, ReadDecorated}
+use Rattle.meaning.specs.Requests.{Asked, unary, binary, overlap, BareOutcome, Read₁, Read₂, DecoratedOutcome, Requested, firstOperand, secondOperand}
+use Rattle.meaning.proofs.Unique.{One, one-answer₁, one-answer₂, one-sound-answer, written-once, hull-once}
 use Rattle.states.proofs.VerdictLaws.{judged-bytes-once, judged-decBytes-once}
 use Rattle.states.proofs.DecoratedLaws.{right-decorated-once}
 use Rattle.states.proofs.DecorationLaws.{allows₁-unique, allows₂-unique}
@@ -17,25 +17,6 @@ use Rattle.states.proofs.ReadingLaws.{read-once}
 use Rattle.request_laws.proofs.CalledLaws.{Single}
 use Rattle.meaning.proofs.OperationNumbers.{asks-once}
 use Rattle.request_laws.proofs.SoundLaws.{sound-valid, sound-ends}
-
--- At most one value.
-abbrev pub One : {A : Type 0} → (A → Type 0) → Type 0
-One {A} R = (z w : A) → R z → R w → z ≡ w
-
-pub written-once : {A : Type 0} {write : A → List ℕ} {Right : A → Type 0} → One Right → One (Written write Right)
-written-once {write = write} one z w h k = h .written ∙ ap write (one (h .answer) (k .answer) (h .right) (k .right)) ∙ sym (k .written)
-
--- Only the answers to sound operands count.
-sound-answer : {A B : Type 0} {Judged : A → Verdict → Type 0} {Right : A → A → B → Type 0} {x y : A} {o : Outcome B}
-    → Answered₂ Judged Right x y o → Answered₂ Judged (λ x y z. Judged x sound × Judged y sound × Right x y z) x y o
-sound-answer (first₂ h) = first₂ h
-sound-answer (second₂ h k) = second₂ h k
-sound-answer (right₂ h k r) = right₂ h k (h, k, r)
-
-one-sound-answer : {A B : Type 0} {Judged : A → Verdict → Type 0} {Right : A → A → B → Type 0} {x y : A}
-    → ((a : A) → One (Judged a)) → (Judged x sound → Judged y sound → One (Right x y)) → Single (Answered₂ Judged Right x y)
-one-sound-answer once one o p h k =
-    one-answer₂ once (λ z w r s. one (r .0) (r .1) z w (r .2) (s .2)) (sound-answer h) (sound-answer k)
 
 module _ (F : Format) where
   pub bare-outcome-once : (q : Asked) (first second : List ℕ) → Single (BareOutcome F q first second)
@@ -46,9 +27,7 @@ module _ (F : Format) where
       one-answer₂ (judged-bytes-once F bigEndian)
       (written-once (hull-once F (Result₂ op (setOf F (readPair bigEndian first)) (setOf F (readPair bigEndian second)))))
   bare-outcome-once overlap first second o p =
-      one-sound-answer (judged-bytes-once F bigEndian)
-      (λ h k. written-once (λ m n. number-unique (sound-valid F h) (sound-valid F k)))
-      o p
+      one-sound-answer (judged-bytes-once F bigEndian) (λ h k. written-once (λ m n. number-unique (sound-valid F h) (sound-valid F k)))
 
   read₁-once : {Right : DecPair → List ℕ → Type 0} {first : List ℕ} → ((x : DecPair) → One (Right x)) → One (Read₁ F Right first)
   read₁-once {Right} {first} one z w h k =
@@ -76,7 +55,6 @@ module _ (F : Format) where
       one-sound-answer (judged-decBytes-once F bigEndian)
       (λ h k. read₂-once
       (λ x y readX readY. written-once (λ m n. decorated-number-unique F x y (sound-ends F h readX) (sound-ends F k readY))))
-      o p
 
 -- A request asks for one operation, and so has one outcome.
 pub requested-once : {size : ℕ} {Outcomes : Asked → (first second : List ℕ) → Outcome (List ℕ) → Type 0} {input : List ℕ}

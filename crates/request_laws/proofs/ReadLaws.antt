@@ -1,7 +1,7 @@
 -- From operands that were read to the outcome of a call, whatever is read and whatever is right.
 use mathlib.Core.Path.{_≡_, ap, subst}
 use Prim.Native.Nat.{ℕ}
-use Rattle.meaning.specs.Statement.{Outcome, refused, given, Verdict, sound, Answered₁, first₁, right₁, Answered₂, first₂, second₂, right₂}
+use Rattle.meaning.specs.Statement.{Outcome, refused, given, Verdict, Answered₁, first₁, right₁, Answered₂, first₂, second₂, right₂}
 use Rattle.request_laws.specs.Reads.{BothRead}
 
 -- What is said of the code's answer is said of the case that it was found to be.

@@ -2,11 +2,11 @@
 use mathlib.Core.Path.{_≡_, sym, _∙_, subst}
 use mathlib.Core.List.{List}
 use Prim.Native.Nat.{ℕ}
-use lib.ListN.{length, getD}
+use lib.ListN.{length}
 use Rattle.patterns.specs.Format.{Format}
 use Rattle.meaning.specs.Points.{Unary}
 use Rattle.meaning.specs.Statement.{Outcome, refused, given}
-use Rattle.meaning.specs.Requests.{Asked, unary, operationNumber, Asks, Known, Requested, firstOperand, secondOperand, Called, wrongLength, wrongRoom, unknown, refusedBytes, answered, bareSize, decoratedSize, BareOutcome, DecoratedOutcome, BareRequest, DecoratedRequest}
+use Rattle.meaning.specs.Requests.{Asked, unary, Asks, Known, Requested, firstOperand, secondOperand, Called, wrongLength, wrongRoom, unknown, refusedBytes, answered, bareSize, decoratedSize, BareRequest, DecoratedRequest}
 use Rattle.request_laws.specs.Calls.{Left, Statement, Leaves, Call, Meets}
 use Rattle.meaning.proofs.OperationNumbers.{asks-once}
 use Rattle.request_laws.proofs.OneOutcome.{bare-request-once, decorated-request-once}

@@ -2,7 +2,6 @@
 use mathlib.Core.Path.{_≡_, refl, sym, ap}
 use mathlib.Core.List.{List}
 use Prim.Native.Nat.{ℕ}
-use native.Mathlib.Omega.{arith}
 use lib.ListN.{length}
 use Rattle.meaning.specs.Statement.{Outcome}
 use Rattle.meaning.specs.Requests.{Called, wrongLength, wrongRoom, unknown, refusedBytes, answered}

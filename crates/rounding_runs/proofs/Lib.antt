@@ -1,3 +1,3 @@
--- Laws of flags that answer a question, and of counts.
-pub mod Deciding
+-- Laws of operations by their case, and of counts.
+pub mod OperationCases
 pub mod Counting

@@ -1,5 +1,4 @@
 -- The three operations, by what each takes and by its exact result.
-use mathlib.Core.Bool.{Bool, true}
 use mathlib.Core.Path.{_≡_}
 use Prim.Native.Nat.{ℕ}
 use Rattle.patterns.specs.Format.{binary64}
@@ -7,11 +6,6 @@ use Rattle.patterns.specs.Rounding.{Exact, sumOf, productOf, quotientOf}
 use Rattle.patterns.specs.Value.{Finite, value, magnitude}
 use Rattle.rounding_runs.specs.declared.operation.Operation.{Operation}
 use Rattle.rounding_runs.specs.declared.operation.Operation.the-variants.{Sum, Product, Quotient}
-
--- The flag answers the question.
-pub record Decides (flag : Bool) (P : Type 0) : Type 0 where
-  pub sound : flag ≡ true → P
-  pub complete : P → flag ≡ true
 
 -- A divisor is not worth 0. The second operand of a sum or a product may be anything.
 abbrev pub SecondOf : Operation → ℕ → Type 0

@@ -2,8 +2,8 @@
 ghost use Prim.Native.Nat.{_+_, _*_, _/_, _≤_};
 ghost use mathlib.Core.Path.{_≡_};
 ghost use lib.ListN.{length};
+ghost use Rattle.flags.specs.Answers.{Answers};
 ghost use Rattle.rounding_runs.specs.Cases.{Counted, FirstWrong, Right, RightCase, Says, SomeRightCase, WrongCase, numberOf};
-ghost use Rattle.rounding_runs.specs.Operations.{Decides};
 use crate::operation::Operation;
 use crate::operation::rounded;
 use crate::operation::takes;
@@ -40,7 +40,7 @@ fn number(o: Operation) -> u8
 
 // Whether the answer is the exact result rounded upward.
 fn right(o: Operation, a: u64, b: u64, answer: u64) -> bool
-    ensures { λ r. ⌜ Decides r (Right o a b answer) ⌝ }
+    ensures { λ r. ⌜ Answers (Right o a b answer) r ⌝ }
 {
     if takes(o, a, b) {
         return rounded(o, a, b) == answer;
@@ -51,7 +51,7 @@ fn right(o: Operation, a: u64, b: u64, answer: u64) -> bool
 // Whether what the case at `at` says is right.
 fn says(s: &[u8], o: Operation, at: usize) -> bool
     requires { ⌜ at + 25 ≤ length (now s) ⌝ }
-    ensures { λ r. ⌜ Decides r (Says (now (s .entry)) o at) ⌝ }
+    ensures { λ r. ⌜ Answers (Says (now (s .entry)) o at) r ⌝ }
 {
     right(
         o,
@@ -64,7 +64,7 @@ fn says(s: &[u8], o: Operation, at: usize) -> bool
 // Whether the case at `at` is one of the operation, and right.
 fn is_right_of(s: &[u8], o: Operation, at: usize) -> bool
     requires { ⌜ at + 25 ≤ length (now s) ⌝ }
-    ensures { λ r. ⌜ Decides r (RightCase (now (s .entry)) o at) ⌝ }
+    ensures { λ r. ⌜ Answers (RightCase (now (s .entry)) o at) r ⌝ }
 {
     if s[at] == number(o) {
         return says(s, o, at);
@@ -75,7 +75,7 @@ fn is_right_of(s: &[u8], o: Operation, at: usize) -> bool
 // Whether the case at `at` is right.
 fn is_right(s: &[u8], at: usize) -> bool
     requires { ⌜ at + 25 ≤ length (now s) ⌝ }
-    ensures { λ r. ⌜ Decides r (SomeRightCase (now (s .entry)) at) ⌝ }
+    ensures { λ r. ⌜ Answers (SomeRightCase (now (s .entry)) at) r ⌝ }
 {
     if is_right_of(s, Operation::Sum, at) {
         return true;

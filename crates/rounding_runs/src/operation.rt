@@ -1,8 +1,9 @@
 // The operations on two finite doubles, by name.
+ghost use Rattle.flags.specs.Answers.{Answers};
 ghost use Rattle.patterns.specs.Format.{binary64};
 ghost use Rattle.patterns.specs.Rounding.{Up};
 ghost use Rattle.patterns.specs.Value.{Finite};
-ghost use Rattle.rounding_runs.specs.Operations.{Decides, SecondOf, Takes, exactOf};
+ghost use Rattle.rounding_runs.specs.Operations.{SecondOf, Takes, exactOf};
 use products::mul_ru;
 use quotients::div_ru;
 use significands::double::SIGN;
@@ -19,14 +20,14 @@ pub enum Operation {
 
 // Whether a pattern is of a finite number.
 fn is_finite(b: u64) -> bool
-    ensures { λ r. ⌜ Decides r (Finite binary64 b) ⌝ }
+    ensures { λ r. ⌜ Answers (Finite binary64 b) r ⌝ }
 {
     b % SIGN < INFINITY
 }
 
 // Whether the second operand is none that the operation leaves out: a quotient's divisor is not 0.
 fn takes_second(o: Operation, b: u64) -> bool
-    ensures { λ r. ⌜ Decides r (SecondOf o b) ⌝ }
+    ensures { λ r. ⌜ Answers (SecondOf o b) r ⌝ }
 {
     match o {
         Operation::Sum => true,
@@ -37,7 +38,7 @@ fn takes_second(o: Operation, b: u64) -> bool
 
 // Whether the operation takes the two operands.
 pub fn takes(o: Operation, a: u64, b: u64) -> bool
-    ensures { λ r. ⌜ Decides r (Takes o a b) ⌝ }
+    ensures { λ r. ⌜ Answers (Takes o a b) r ⌝ }
 {
     if !is_finite(a) {
         return false;

@@ -5,11 +5,11 @@ use Prim.Native.Nat.{ℕ}
 use Rattle.patterns.specs.Format.{Format}
 use Rattle.meaning.specs.Sets.{End, at, unbounded, Set, empty, span, Ordered, ordered, Valid, validEmpty, validSpan}
 use Rattle.meaning.specs.Pairs.{Pair, NaNs, setOf}
-use Rattle.meaning.specs.Statement.{Outcome, Verdict, sound, Answered₂, first₂, second₂, right₂, JudgedBare, bareGood, DecPair, Ends, JudgedDecorated, decoratedGood}
+use Rattle.meaning.specs.Statement.{Outcome, sound, JudgedBare, bareGood, DecPair, Ends, JudgedDecorated, decoratedGood}
 use Rattle.meaning.specs.Overlap.{State, bothEmpty, firstEmpty, secondEmpty, stateNumber, number, plusInf, asLower, asUpper, Less, lessNumbers, fromMinus, across, OverlapOf, OverlapNumber, DecoratedOverlap, naiState, intervalState, BareOverlap, DecOverlap}
 use Rattle.meaning.proofs.FractionLaws.{lt-not-le}
 use Rattle.meaning.proofs.PairLaws.{set-valid}
-use Rattle.meaning.proofs.Unique.{one-answer₂, judged-bare-once}
+use Rattle.meaning.proofs.Unique.{one-sound-answer, judged-bare-once}
 use Rattle.states.proofs.StateLaws.{complete, exclusive}
 use Rattle.states.proofs.ExtendedOrder.{extended}
 use Rattle.states.proofs.VerdictLaws.{judged-decorated-once}
@@ -49,13 +49,6 @@ module _ (F : Format) (x y : DecPair) (endsX : Ends F (x .pair)) (endsY : Ends F
   decorated-number-unique (intervalState notNaI h) (intervalState _ k) =
       number-unique (interval-valid F endsX (λ n. notNaI (inl n))) (interval-valid F endsY (λ n. notNaI (inr n))) h k
 
--- Only the answers to sound operands count.
-sound-answer : {A B : Type 0} {Judged : A → Verdict → Type 0} {Right : A → A → B → Type 0} {x y : A} {o : Outcome B}
-    → Answered₂ Judged Right x y o → Answered₂ Judged (λ x y z. Judged x sound × Judged y sound × Right x y z) x y o
-sound-answer (first₂ h) = first₂ h
-sound-answer (second₂ h k) = second₂ h k
-sound-answer (right₂ h k r) = right₂ h k (h, k, r)
-
 sound-bare : {F : Format} {x : Pair} → JudgedBare F x sound → Valid (setOf F x)
 sound-bare {F} {x} (bareGood h) = set-valid F x h
 
@@ -65,12 +58,8 @@ sound-ends (decoratedGood h _) = h
 -- The statements of overlap have one outcome each.
 pub bareOverlap-once : (F : Format) (x y : Pair) {o p : Outcome ℕ} → BareOverlap F x y o → BareOverlap F x y p → o ≡ p
 bareOverlap-once F x y h k =
-    one-answer₂ (judged-bare-once F)
-    (λ m n r s. number-unique (sound-bare (r .0)) (sound-bare (r .1)) (r .2) (s .2))
-    (sound-answer h) (sound-answer k)
+    one-sound-answer (judged-bare-once F) (λ i j m n. number-unique (sound-bare i) (sound-bare j)) h k
 
 pub decOverlap-once : (F : Format) (x y : DecPair) {o p : Outcome ℕ} → DecOverlap F x y o → DecOverlap F x y p → o ≡ p
 decOverlap-once F x y h k =
-    one-answer₂ (judged-decorated-once F)
-    (λ m n r s. decorated-number-unique F x y (sound-ends (r .0)) (sound-ends (r .1)) (r .2) (s .2))
-    (sound-answer h) (sound-answer k)
+    one-sound-answer (judged-decorated-once F) (λ i j m n. decorated-number-unique F x y (sound-ends i) (sound-ends j)) h k

@@ -9,8 +9,8 @@ use Rattle.meaning.specs.Pairs.{worth}
 use Rattle.meaning.proofs.FractionLaws.{lt-le, eq-ge}
 use Rattle.points.specs.Functions.{Keeps}
 use Rattle.points.proofs.PointLaws.{whole-kept}
-use Rattle.interval.specs.Answers.{Answers, affirmed, denied}
-use Rattle.interval.proofs.AnswerLaws.{said-yes, said-no}
+use Rattle.flags.specs.Answers.{Answers, affirmed, denied}
+use Rattle.flags.proofs.AnswerLaws.{said-yes, said-no}
 use Rattle.wholes.specs.Enclosure.{OnSide, belowHalf, atHalf, aboveHalf, Encloses, PartsOf, isWhole, isBetween}
 use Rattle.wholes.specs.Made.{MadeMagnitude}
 use Rattle.wholes.specs.declared.split.Side.{Side}

@@ -3,7 +3,7 @@ use mathlib.Core.Path.{subst⁻¹}
 use Rattle.patterns.specs.Format.{binary64, infinity, signBit}
 use Rattle.meaning.specs.Pairs.{Proper, minusInfinity}
 use Rattle.meaning.specs.Points.{mul}
-use Rattle.interval.proofs.AnswerLaws.{said-yes, said-no}
+use Rattle.flags.proofs.AnswerLaws.{said-yes, said-no}
 use Rattle.operands.proofs.EmptyLaws.{neither-empty, empty-hull₂}
 use Rattle.operands.proofs.MirrorLaws.{mirror-proper}
 use Rattle.arith.proofs.BoundLaws.{product-hull}

@@ -3,7 +3,7 @@ use native.Mathlib.Omega.{arith}
 use Rattle.patterns.specs.Format.{binary64, signBit}
 use Rattle.meaning.specs.Pairs.{EmptyPair, setOf}
 use Rattle.interval.specs.Conversions.{pairOf}
-use Rattle.interval.proofs.AnswerLaws.{said-yes, said-no}
+use Rattle.flags.proofs.AnswerLaws.{said-yes, said-no}
 use Rattle.interval.proofs.Shapes.{Shape, shape, answers-nothing}
 use Rattle.classify.proofs.ClassLaws.{class-empty, class-P1, class-N1, class-N0, class-M, class-Z, class-P0}
 use Rattle.classify.proofs.classify.Statement.{statement}

@@ -3,7 +3,7 @@ use mathlib.Core.Path.{_≡_, refl, subst}
 use mathlib.Core.List.{[], _∷_}
 use borrow.Author.Needs.{needs}
 use Rattle.meaning.specs.Classes.{ClassOf, classZ}
-use Rattle.interval.specs.Answers.{affirmed, denied}
+use Rattle.flags.specs.Answers.{affirmed, denied}
 use Rattle.classify.specs.Conversions.{classOf}
 use Rattle.classify.specs.declared.IntervalClass.{IntervalClass}
 use Rattle.arith_ends.proofs.Arms.{in-arm}

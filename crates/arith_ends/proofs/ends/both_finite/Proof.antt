@@ -1,5 +1,5 @@
 -- `ends::both_finite` meets its contract: each end is tested.
-use Rattle.interval.proofs.AnswerLaws.{answers-iff, said-yes, no-so}
+use Rattle.flags.proofs.AnswerLaws.{answers-iff, said-yes, no-so}
 use Rattle.arith_ends.proofs.ends.both_finite.Statement.{statement}
 use Rattle.arith_ends.proofs.ends.both_finite.Tie as tie
 

@@ -1,6 +1,6 @@
 -- `product::greater_product` meets its contract: the greater of two rounded ends is the greater end rounded.
 use Rattle.patterns.specs.Format.{binary64}
-use Rattle.interval.proofs.AnswerLaws.{said-yes, said-no}
+use Rattle.flags.proofs.AnswerLaws.{said-yes, said-no}
 use Rattle.arith_ends.proofs.GreaterLaws.{greater-first, greater-second}
 use Rattle.arith_ends.proofs.product.greater_product.Statement.{statement}
 use Rattle.arith_ends.proofs.product.greater_product.Tie as tie

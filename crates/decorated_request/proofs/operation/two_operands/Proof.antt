@@ -1,6 +1,5 @@
 -- `operation::two_operands` meets its contract: sound operands are answered, and any others refused.
-use Rattle.meaning.specs.Bytes.{bigEndian}
-use Rattle.meaning.specs.Requests.{writeDecorated}
+use Rattle.meaning.specs.Bytes.{bigEndian, writeDecorated}
 use Rattle.request_laws.proofs.ReadLaws.{found₂, after₂, refused₂}
 use Rattle.decorated_request.specs.Conversions.{outcomeOf, bothOf}
 use Rattle.decorated_request.proofs.SoundOperands.{two-sound, write₂}

@@ -2,7 +2,7 @@
 use mathlib.Core.Path.{subst⁻¹}
 use Rattle.patterns.specs.Format.{binary64, infinity, signBit}
 use Rattle.meaning.specs.Pairs.{minusInfinity}
-use Rattle.interval.proofs.AnswerLaws.{said-yes, said-no}
+use Rattle.flags.proofs.AnswerLaws.{said-yes, said-no}
 use Rattle.operands.proofs.EmptyLaws.{not-empty, empty-hull₁}
 use Rattle.operands.proofs.MirrorLaws.{mirror-proper}
 use Rattle.wholes.specs.Made.{operation}

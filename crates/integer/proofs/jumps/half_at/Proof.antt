@@ -1,6 +1,6 @@
 -- `jumps::half_at` meets its contract: only a finite end has a fractional part.
 use Rattle.patterns.specs.Format.{binary64, signBit}
-use Rattle.interval.proofs.AnswerLaws.{said-yes, no-so}
+use Rattle.flags.proofs.AnswerLaws.{said-yes, no-so}
 use Rattle.integer.proofs.JumpLaws.{answers-half, half-finite}
 use Rattle.integer.proofs.jumps.half_at.Statement.{statement}
 use Rattle.integer.proofs.jumps.half_at.Tie as tie

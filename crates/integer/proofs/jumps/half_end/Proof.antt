@@ -1,7 +1,7 @@
 -- `jumps::half_end` meets its contract: the lower end is asked, then the upper end.
 use mathlib.Core.Logic.{inl}
 use Rattle.patterns.specs.Format.{binary64}
-use Rattle.interval.proofs.AnswerLaws.{said-no, yes-so, answers-iff, or-else}
+use Rattle.flags.proofs.AnswerLaws.{said-no, yes-so, answers-iff, or-else}
 use Rattle.integer.proofs.JumpLaws.{half-some, some-half}
 use Rattle.integer.proofs.jumps.half_end.Statement.{statement}
 use Rattle.integer.proofs.jumps.half_end.Tie as tie

@@ -5,7 +5,7 @@ use Rattle.patterns.specs.Format.{binary64}
 use Rattle.meaning.specs.Pairs.{Canonical}
 use Rattle.meaning.specs.Statement.{first₁, right₁}
 use Rattle.meaning.specs.Bytes.{bytesFive, bytesGood}
-use Rattle.interval.proofs.AnswerLaws.{said-yes, said-no}
+use Rattle.flags.proofs.AnswerLaws.{said-yes, said-no}
 use Rattle.interchange.proofs.bare.read.Statement.{statement}
 use Rattle.interchange.proofs.bare.read.Tie as tie
 

@@ -33,7 +33,7 @@ returns c =
       outcome = given _;
       right =
           right₁ (judged-sound (JudgedBare binary64) (k .before .before .judge .ensures) (k .enum-told .given .1))
-          (record { tidied = _; is = c .before .before .tidy .ensures; bytes = c .before .write-ends .ensures ∙ append-nil _ });
+          (record { answer = _; right = c .before .before .tidy .ensures; written = c .before .write-ends .ensures ∙ append-nil _ });
       is = refl;
     }
 

@@ -1,7 +1,7 @@
 -- `canonical::is_canonical` meets its contract: each zero is tested, and then the interval.
 use Rattle.patterns.specs.Format.{signBit}
-use Rattle.interval.specs.Answers.{denied}
-use Rattle.interval.proofs.AnswerLaws.{answers-iff}
+use Rattle.flags.specs.Answers.{denied}
+use Rattle.flags.proofs.AnswerLaws.{answers-iff}
 use Rattle.interchange.proofs.canonical.is_canonical.Statement.{statement}
 use Rattle.interchange.proofs.canonical.is_canonical.Tie as tie
 

@@ -2,7 +2,7 @@
 use borrow.Author.Tests.{not-true, not-false}
 use Rattle.patterns.specs.Format.{binary64}
 use Rattle.meaning.specs.Statement.{first₁, right₁, JudgedDecorated}
-use Rattle.interval.proofs.AnswerLaws.{said-yes, said-no}
+use Rattle.flags.proofs.AnswerLaws.{said-yes, said-no}
 use Rattle.interval.proofs.StatementLaws.{judged-sound, judged-wrong, sound-agrees}
 use Rattle.interchange.specs.Reading.{readFive, readGood}
 use Rattle.interchange.proofs.ReadLaws.{wrong-read}

@@ -1,6 +1,6 @@
 -- `decorated::read_as` meets its contract: NaI is answered by its constant.
 use Rattle.patterns.specs.Format.{infinity, quietNaN}
-use Rattle.interval.proofs.AnswerLaws.{said-yes, said-no}
+use Rattle.flags.proofs.AnswerLaws.{said-yes, said-no}
 use Rattle.interchange.specs.Reading.{asNaI, asItself}
 use Rattle.interchange.proofs.decorated.read_as.Statement.{statement}
 use Rattle.interchange.proofs.decorated.read_as.Tie as tie

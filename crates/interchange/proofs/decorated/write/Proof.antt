@@ -48,9 +48,9 @@ returns c =
       right =
           right₁ (judged-sound (JudgedDecorated binary64) (k .before .before .judge-dec .ensures) (k .enum-told .given .1))
           (record {
-            tidied = _;
-            is = z .tidy-dec .ensures;
-            bytes =
+            answer = _;
+            right = z .tidy-dec .ensures;
+            written =
                 placed-byte o p (c .decoration-byte .result) _ (c .before .before .write-ends .ensures)
                 ∙ ap (λ (d : ℕ). writePair o p ++ (d ∷ [])) (c .decoration-byte .ensures);
           });

@@ -1,7 +1,7 @@
 -- `decorations::highest` meets its contract: each test picks its case.
 use mathlib.Core.Path.{sym}
 use Rattle.patterns.specs.Format.{binary64}
-use Rattle.interval.proofs.AnswerLaws.{said-yes, said-no}
+use Rattle.flags.proofs.AnswerLaws.{said-yes, said-no}
 use Rattle.interval.proofs.Shapes.{answers-nothing, answers-common}
 use Rattle.interval.proofs.DecorationLaws.{highest-empty, highest-bounded, highest-unbounded}
 use Rattle.interval.proofs.decorations.highest.Statement.{statement}

@@ -1,7 +1,7 @@
 -- `sets::holds_all` meets its contract: each end is tested.
 use Rattle.patterns.specs.Format.{binary64, infinity, signBit}
 use Rattle.meaning.specs.Pairs.{minusInfinity}
-use Rattle.interval.proofs.AnswerLaws.{answers-eq}
+use Rattle.flags.proofs.AnswerLaws.{answers-eq}
 use Rattle.interval.proofs.Shapes.{shape, all-when, all-only}
 use Rattle.interval.proofs.sets.holds_all.Statement.{statement}
 use Rattle.interval.proofs.sets.holds_all.Tie as tie

@@ -1,6 +1,6 @@
 -- `sets::is_point` meets its contract: of two finite ends in order, the upper is not above the lower.
 use Rattle.patterns.specs.Format.{binary64}
-use Rattle.interval.proofs.AnswerLaws.{answers-iff, said-yes, no-so}
+use Rattle.flags.proofs.AnswerLaws.{answers-iff, said-yes, no-so}
 use Rattle.interval.proofs.Shapes.{shape, point-when, point-bounded, point-only}
 use Rattle.interval.proofs.sets.is_point.Statement.{statement}
 use Rattle.interval.proofs.sets.is_point.Tie as tie

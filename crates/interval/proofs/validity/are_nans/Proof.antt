@@ -1,5 +1,5 @@
 -- `validity::are_nans` meets its contract: each end is tested.
-use Rattle.interval.proofs.AnswerLaws.{answers-iff, said-yes, no-so}
+use Rattle.flags.proofs.AnswerLaws.{answers-iff, said-yes, no-so}
 use Rattle.interval.proofs.validity.are_nans.Statement.{statement}
 use Rattle.interval.proofs.validity.are_nans.Tie as tie
 

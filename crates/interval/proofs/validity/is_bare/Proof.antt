@@ -1,6 +1,6 @@
 -- `validity::is_bare` meets its contract: the first test settles it, or the second does.
 use mathlib.Core.Logic.{inl}
-use Rattle.interval.proofs.AnswerLaws.{said-no, yes-so, or-else}
+use Rattle.flags.proofs.AnswerLaws.{said-no, yes-so, or-else}
 use Rattle.interval.proofs.validity.is_bare.Statement.{statement}
 use Rattle.interval.proofs.validity.is_bare.Tie as tie
 

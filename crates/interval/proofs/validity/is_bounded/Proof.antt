@@ -1,5 +1,5 @@
 -- `validity::is_bounded` meets its contract: each end is tested.
-use Rattle.interval.proofs.AnswerLaws.{answers-iff, said-yes, no-so}
+use Rattle.flags.proofs.AnswerLaws.{answers-iff, said-yes, no-so}
 use Rattle.interval.proofs.validity.is_bounded.Statement.{statement}
 use Rattle.interval.proofs.validity.is_bounded.Tie as tie
 

@@ -1,7 +1,7 @@
 -- `validity::is_empty_pair` meets its contract: each end is tested.
 use Rattle.patterns.specs.Format.{infinity, signBit}
 use Rattle.meaning.specs.Pairs.{minusInfinity}
-use Rattle.interval.proofs.AnswerLaws.{answers-eq}
+use Rattle.flags.proofs.AnswerLaws.{answers-eq}
 use Rattle.interval.proofs.validity.is_empty_pair.Statement.{statement}
 use Rattle.interval.proofs.validity.is_empty_pair.Tie as tie
 

@@ -2,7 +2,7 @@
 use mathlib.Core.Logic.{inl}
 use Rattle.patterns.specs.Format.{infinity, signBit}
 use Rattle.meaning.specs.Pairs.{minusInfinity}
-use Rattle.interval.proofs.AnswerLaws.{answers-eq, said-no, yes-so, or-else}
+use Rattle.flags.proofs.AnswerLaws.{answers-eq, said-no, yes-so, or-else}
 use Rattle.interval.proofs.validity.is_lower.Statement.{statement}
 use Rattle.interval.proofs.validity.is_lower.Tie as tie
 

@@ -1,12 +1,12 @@
 -- `validity::is_proper` meets its contract: each end is tested, and then their order.
 use borrow.Author.Tests.{not-true, not-false}
 use Rattle.patterns.specs.Format.{binary64}
-use Rattle.interval.specs.Answers.{denied}
-use Rattle.interval.proofs.AnswerLaws.{said-yes, said-no, no-so}
+use Rattle.flags.specs.Answers.{denied}
+use Rattle.flags.proofs.AnswerLaws.{said-yes, said-no, no-so}
 use Rattle.interval.proofs.JudgeLaws.{answers-proper}
-use Rattle.interval.proofs.AnswerLaws.{said-yes, said-no, no-so}
+use Rattle.flags.proofs.AnswerLaws.{said-yes, said-no, no-so}
 use Rattle.interval.proofs.JudgeLaws.{answers-proper}
-use Rattle.interval.proofs.AnswerLaws.{said-yes, said-no, no-so}
+use Rattle.flags.proofs.AnswerLaws.{said-yes, said-no, no-so}
 use Rattle.interval.proofs.JudgeLaws.{answers-proper}
 use Rattle.interval.proofs.validity.is_proper.Statement.{statement}
 use Rattle.interval.proofs.validity.is_proper.Tie as tie

@@ -1,7 +1,7 @@
 -- `validity::is_upper` meets its contract: the first test settles it, or the second does.
 use mathlib.Core.Logic.{inl}
 use Rattle.patterns.specs.Format.{infinity}
-use Rattle.interval.proofs.AnswerLaws.{answers-eq, said-no, yes-so, or-else}
+use Rattle.flags.proofs.AnswerLaws.{answers-eq, said-no, yes-so, or-else}
 use Rattle.interval.proofs.validity.is_upper.Statement.{statement}
 use Rattle.interval.proofs.validity.is_upper.Tie as tie
 

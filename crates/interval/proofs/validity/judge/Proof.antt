@@ -1,6 +1,6 @@
 -- `validity::judge` meets its contract: each answer of the test is one judgement.
 use Rattle.meaning.specs.Statement.{bareFive, bareGood}
-use Rattle.interval.proofs.AnswerLaws.{said-yes, said-no}
+use Rattle.flags.proofs.AnswerLaws.{said-yes, said-no}
 use Rattle.interval.proofs.validity.judge.Statement.{statement}
 use Rattle.interval.proofs.validity.judge.Tie as tie
 

@@ -1,7 +1,7 @@
 -- `validity::judge_dec` meets its contract: the ends are judged before the decoration.
 use borrow.Author.Tests.{not-true, not-false}
 use Rattle.meaning.specs.Statement.{decoratedFive, decoratedSix, decoratedGood}
-use Rattle.interval.proofs.AnswerLaws.{said-yes, said-no}
+use Rattle.flags.proofs.AnswerLaws.{said-yes, said-no}
 use Rattle.interval.proofs.validity.judge_dec.Statement.{statement}
 use Rattle.interval.proofs.validity.judge_dec.Tie as tie
 

@@ -2,7 +2,7 @@
 use mathlib.Core.Path.{refl}
 use Rattle.patterns.specs.Format.{binary64, infinity, quietNaN}
 use Rattle.interval.specs.Values.{tidiedNaI, tidiedInterval}
-use Rattle.interval.proofs.AnswerLaws.{said-yes, said-no}
+use Rattle.flags.proofs.AnswerLaws.{said-yes, said-no}
 use Rattle.interval.proofs.AgreeLaws.{only-bare}
 use Rattle.interval.proofs.zeros.tidy_dec.Statement.{statement}
 use Rattle.interval.proofs.zeros.tidy_dec.Tie as tie

@@ -1,6 +1,6 @@
 -- `sound::either_empty` meets its contract: the first test settles it, or the second does.
 use mathlib.Core.Logic.{inl}
-use Rattle.interval.proofs.AnswerLaws.{said-no, yes-so, or-else}
+use Rattle.flags.proofs.AnswerLaws.{said-no, yes-so, or-else}
 use Rattle.operands.proofs.sound.either_empty.Statement.{statement}
 use Rattle.operands.proofs.sound.either_empty.Tie as tie
 

@@ -1,7 +1,7 @@
 -- `sound::one_operand` meets its contract: a sound operand is NaI or an interval.
 use mathlib.Core.Path.{refl}
 use Rattle.patterns.specs.Format.{binary64}
-use Rattle.interval.proofs.AnswerLaws.{said-yes, said-no}
+use Rattle.flags.proofs.AnswerLaws.{said-yes, said-no}
 use Rattle.operands.specs.Sorted.{sortedNaI, sortedIntervals}
 use Rattle.operands.proofs.SortedLaws.{sound-bare, sound-not-ill}
 use Rattle.operands.proofs.sound.one_operand.Statement.{statement}

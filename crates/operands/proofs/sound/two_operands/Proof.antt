@@ -2,7 +2,7 @@
 use mathlib.Core.Logic.{inl, inr, ⊎-elim}
 use Rattle.patterns.specs.Format.{binary64}
 use Rattle.interval.specs.Conversions.{decorationOf}
-use Rattle.interval.proofs.AnswerLaws.{said-yes, said-no}
+use Rattle.flags.proofs.AnswerLaws.{said-yes, said-no}
 use Rattle.operands.specs.Sorted.{sortedNaI, sortedIntervals}
 use Rattle.operands.proofs.SortedLaws.{sound-bare, sound-not-ill, lower-not-ill}
 use Rattle.operands.proofs.sound.two_operands.Statement.{statement}

@@ -1,5 +1,4 @@
 -- `numbers::numbered` meets its contract: each range of numbers has its operations, and beyond 1 to 17 there are none.
-use mathlib.Core.Path.{sym, _∙_}
 use mathlib.Core.Logic.{inl, inr, ⊎-elim}
 use native.Mathlib.Omega.{arith}
 use borrow.Author.Needs.{needs}

@@ -7,7 +7,7 @@ use native.Mathlib.Omega.{arith}
 use lib.ListN.{length}
 use Rattle.rounding_runs.specs.Cases.{Counted, none, RightCase, WrongCase}
 use Rattle.rounding_runs.proofs.Counting.{counted-within, counts, passes}
-use Rattle.rounding_runs.proofs.Deciding.{refuted}
+use Rattle.flags.proofs.AnswerLaws.{said-yes, said-no}
 use Rattle.rounding_runs.proofs.cases.count.Statement.{statement}
 use Rattle.rounding_runs.proofs.cases.count.Tie as tie
 
@@ -51,11 +51,11 @@ loop-again c =
     let (within, rights, wrongs) = at-loop .loop .inv in
     ⊎-elim
     (λ w.
-    let right = w .1 .ensures .sound (w .2 .taken) in
+    let right = said-yes (w .1 .ensures) (w .2 .taken) in
     (omega arith, rw (w .3) (counts (record { of = w .0 .taken ∙ of; says = right }) rights), rw (w .4) (passes (λ wrong. wrong .says right) wrongs)))
     (⊎-elim
     (λ w.
-    let wrong = refuted (w .1 .ensures) (w .2 .left) in
+    let wrong = said-no (w .1 .ensures) (w .2 .left) in
     (omega arith, rw (w .3) (passes (λ right. wrong (right .says)) rights), rw (w .4) (counts (record { of = w .0 .taken ∙ of; says = wrong }) wrongs)))
     (λ w.
     (omega arith, rw (w .1) (passes (λ right. w .0 .left (right .of ∙ sym of)) rights), rw (w .2) (passes (λ wrong. w .0 .left (wrong .of ∙ sym of)) wrongs))))

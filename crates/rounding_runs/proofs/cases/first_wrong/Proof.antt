@@ -6,7 +6,7 @@ use Prim.Native.Nat.{ℕ, _-_, _*_, _/_, _<_, _≤_}
 use native.Mathlib.Omega.{arith}
 use lib.ListN.{length}
 use Rattle.rounding_runs.specs.Cases.{SomeRightCase}
-use Rattle.rounding_runs.proofs.Deciding.{refuted}
+use Rattle.flags.proofs.AnswerLaws.{said-yes, said-no}
 use Rattle.rounding_runs.proofs.cases.first_wrong.Statement.{statement}
 use Rattle.rounding_runs.proofs.cases.first_wrong.Tie as tie
 
@@ -28,7 +28,7 @@ is-right-requires c κs = search needs
 returns : tie.Need-returns Inv-loop μ-loop
 returns c =
     let (within, before) = c .before .before .before .loop .inv in
-    record { within = within; before = before; here = λ case. refuted (c .before .is-right .ensures) (not-true _ (c .if1 .taken)) }
+    record { within = within; before = before; here = λ case. said-no (c .before .is-right .ensures) (not-true _ (c .if1 .taken)) }
 
 add-k : tie.Need-add-k Inv-loop μ-loop
 add-k c = search needs
@@ -39,7 +39,7 @@ loop-less c = search needs
 loop-again : tie.Need-loop-again Inv-loop μ-loop
 loop-again c = (
   omega arith,
-  below-more _ _ (c .before .before .before .loop .inv .1) (c .before .is-right .ensures .sound (not-false _ (c .if1 .left))),
+  below-more _ _ (c .before .before .before .loop .inv .1) (said-yes (c .before .is-right .ensures) (not-false _ (c .if1 .left))),
 )
 
 returns-2 : tie.Need-returns-2 Inv-loop μ-loop

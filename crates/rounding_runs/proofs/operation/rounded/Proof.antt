@@ -1,10 +1,7 @@
 -- `rounding_runs::operation::rounded` meets its contract: each operation's own function answers.
 use borrow.Author.Needs.{needs}
-use mathlib.Core.Path.{sym, subst}
-use Prim.Native.Nat.{ℕ}
-use Rattle.patterns.specs.Format.{binary64}
-use Rattle.patterns.specs.Rounding.{Up}
-use Rattle.rounding_runs.specs.Operations.{SecondOf, exactOf}
+use mathlib.Core.Path.{subst}
+use Rattle.rounding_runs.specs.Operations.{SecondOf}
 use Rattle.rounding_runs.specs.declared.operation.Operation.{Operation}
 use Rattle.rounding_runs.proofs.operation.rounded.Statement.{statement}
 use Rattle.rounding_runs.proofs.operation.rounded.Tie as tie

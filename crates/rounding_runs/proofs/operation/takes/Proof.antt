@@ -1,7 +1,8 @@
 -- `rounding_runs::operation::takes` meets its contract: it answers the questions of its parts in turn.
 use borrow.Author.Needs.{needs}
 use borrow.Author.Tests.{not-false, not-true}
-use Rattle.rounding_runs.proofs.Deciding.{decides-no, refuted}
+use Rattle.flags.specs.Answers.{denied}
+use Rattle.flags.proofs.AnswerLaws.{answers-iff, said-yes, said-no}
 use Rattle.rounding_runs.proofs.operation.takes.Statement.{statement}
 use Rattle.rounding_runs.proofs.operation.takes.Tie as tie
 
@@ -9,26 +10,22 @@ is-finite-requires : tie.Need-is-finite-requires
 is-finite-requires c κs = search needs
 
 returns : tie.Need-returns
-returns c = decides-no (λ takes. refuted (c .before .is-finite .ensures) (not-true _ (c .if1 .taken)) (takes .first))
+returns c = denied (λ takes. said-no (c .before .is-finite .ensures) (not-true _ (c .if1 .taken)) (takes .first))
 
 is-finite-requires-2 : tie.Need-is-finite-requires-2
 is-finite-requires-2 c κs = search needs
 
 returns-2 : tie.Need-returns-2
-returns-2 c = decides-no (λ takes. refuted (c .before .is-finite2 .ensures) (not-true _ (c .if2 .taken)) (takes .second))
+returns-2 c = denied (λ takes. said-no (c .before .is-finite2 .ensures) (not-true _ (c .if2 .taken)) (takes .second))
 
 takes-second-requires : tie.Need-takes-second-requires
 takes-second-requires c κs = search needs
 
 returns-3 : tie.Need-returns-3
 returns-3 c =
-    let first = c .before .before .before .before .is-finite .ensures .sound (not-false _ (c .before .before .before .if1 .left)) in
-    let second = c .before .before .is-finite2 .ensures .sound (not-false _ (c .before .if2 .left)) in
-    let rest = c .takes-second .ensures in
-    record {
-      sound = λ flag. record { first = first; second = second; divisor = rest .sound flag };
-      complete = λ takes. rest .complete (takes .divisor);
-    }
+    let first = said-yes (c .before .before .before .before .is-finite .ensures) (not-false _ (c .before .before .before .if1 .left)) in
+    let second = said-yes (c .before .before .is-finite2 .ensures) (not-false _ (c .before .if2 .left)) in
+    answers-iff (λ divisor. record { first = first; second = second; divisor = divisor }) (λ takes. takes .divisor) (c .takes-second .ensures)
 
 pub takes-spec : {M : Type 1} → statement M
 takes-spec =

@@ -1,13 +1,11 @@
 -- `rounding_runs::operation::takes_second` meets its contract: a divisor is worth 0 if its magnitude is 0, and only then.
 use borrow.Author.Needs.{needs}
-use borrow.Author.Tests.{eqb-false, ne-eqb, not-true}
-use mathlib.Core.Bool.{Bool, not}
-use mathlib.Core.Path.{_≡_, ap, sym, _∙_}
-use Prim.Native.Nat.{ℕ}
-use Rattle.patterns.specs.Format.{binary64, signBit}
+use mathlib.Core.Path.{ap, sym, _∙_}
+use Rattle.patterns.specs.Format.{signBit}
 use Rattle.patterns.specs.Value.{magnitude, value}
 use Rattle.patterns.proofs.ValueLaws.{value-zero, value-injective}
-use Rattle.rounding_runs.proofs.Deciding.{decides-yes}
+use Rattle.flags.specs.Answers.{affirmed}
+use Rattle.flags.proofs.AnswerLaws.{answers-eq, answers-not}
 use Rattle.rounding_runs.proofs.operation.takes_second.Statement.{statement}
 use Rattle.rounding_runs.proofs.operation.takes_second.Tie as tie
 
@@ -21,17 +19,17 @@ enum-told-3 : tie.Need-enum-told-3
 enum-told-3 c = search needs
 
 returns : tie.Need-returns
-returns c = rw (c .enum-told .given .1) (decides-yes tt)
+returns c = rw (c .enum-told .given .1) (affirmed tt)
 
 returns-2 : tie.Need-returns-2
-returns-2 c = rw (c .enum-told2 .given .1) (decides-yes tt)
+returns-2 c = rw (c .enum-told2 .given .1) (affirmed tt)
 
 returns-3 : tie.Need-returns-3
 unfolding magnitude signBit
-returns-3 c = rw (c .enum-told3 .given .1) (record {
-  sound = λ flag worth. eqb-false _ _ (not-true _ flag) (value-injective 52 (worth ∙ sym (value-zero 52)));
-  complete = λ some. ap not (ne-eqb _ _ (λ none. some (ap (value 52) none ∙ value-zero 52)));
-})
+returns-3 c =
+    rw (c .enum-told3 .given .1)
+    (answers-not
+    (answers-eq _ _ (λ none. ap (value 52) none ∙ value-zero 52) (λ some worth. some (value-injective 52 (worth ∙ sym (value-zero 52))))))
 
 pub takes-second-spec : {M : Type 1} → statement M
 takes-second-spec = tie.close (tie.spec enum-told enum-told-2 enum-told-3 returns returns-2 returns-3)

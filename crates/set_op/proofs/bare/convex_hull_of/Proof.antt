@@ -1,6 +1,6 @@
 -- `bare::convex_hull_of` meets its contract: EMPTY adds nothing to the other operand.
 use Rattle.patterns.specs.Format.{binary64}
-use Rattle.interval.proofs.AnswerLaws.{said-yes, said-no}
+use Rattle.flags.proofs.AnswerLaws.{said-yes, said-no}
 use Rattle.operands.proofs.EmptyLaws.{not-empty}
 use Rattle.set_op.proofs.SetOperations.{hull-first, hull-second}
 use Rattle.set_op.proofs.bare.convex_hull_of.Statement.{statement}

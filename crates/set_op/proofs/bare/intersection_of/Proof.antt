@@ -1,7 +1,7 @@
 -- `bare::intersection_of` meets its contract: nothing is common to EMPTY and another operand.
 use Rattle.patterns.specs.Format.{binary64, infinity, signBit}
 use Rattle.meaning.specs.Pairs.{minusInfinity}
-use Rattle.interval.proofs.AnswerLaws.{said-yes, said-no}
+use Rattle.flags.proofs.AnswerLaws.{said-yes, said-no}
 use Rattle.operands.proofs.EmptyLaws.{neither-empty}
 use Rattle.set_op.proofs.SetOperations.{intersection-empty}
 use Rattle.set_op.proofs.bare.intersection_of.Statement.{statement}

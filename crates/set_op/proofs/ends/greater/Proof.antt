@@ -1,6 +1,6 @@
 -- `ends::greater` meets its contract: the test orders the two by value.
 use Rattle.meaning.proofs.FractionLaws.{lt-le, not-lt}
-use Rattle.interval.proofs.AnswerLaws.{said-yes, said-no}
+use Rattle.flags.proofs.AnswerLaws.{said-yes, said-no}
 use Rattle.set_op.specs.Ends.{greaterIsFirst, greaterIsSecond}
 use Rattle.set_op.proofs.ends.greater.Statement.{statement}
 use Rattle.set_op.proofs.ends.greater.Tie as tie

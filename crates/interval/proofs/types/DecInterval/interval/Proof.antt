@@ -2,7 +2,7 @@
 use Rattle.patterns.specs.Format.{binary64}
 use Rattle.meaning.specs.Statement.{JudgedDecorated, right₁}
 use Rattle.interval.specs.Values.{isPart, isMissing}
-use Rattle.interval.proofs.AnswerLaws.{said-yes, said-no}
+use Rattle.flags.proofs.AnswerLaws.{said-yes, said-no}
 use Rattle.interval.proofs.AgreeLaws.{only-bare}
 use Rattle.interval.proofs.StatementLaws.{judged-sound, answered-wrong, sound-ends}
 use Rattle.interval.proofs.types.DecInterval.interval.Statement.{statement}

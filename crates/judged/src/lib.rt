@@ -1,4 +1,4 @@
-// Any operation on any values: operands are judged first, the first before the second.
+// Any operation by name on any values: operands are judged first, the first before the second.
 ghost use Rattle.patterns.specs.Format.{binary64};
 ghost use Rattle.meaning.specs.Statement.{Bare₁, Bare₂, Decorated₁, Decorated₂};
 ghost use Rattle.interval.specs.Conversions.{pairOf, decPairOf, outcome, decOutcome};

@@ -1,8 +1,8 @@
--- `judged::two` meets its contract: what is found wrong is refused, and sound operands are answered.
+-- `two` meets its contract: what is found wrong is refused, and sound operands are answered.
 use Rattle.interval.proofs.StatementLaws.{sound-bare}
 use Rattle.operands.proofs.TakenLaws.{sound₂, given₂, refused₂}
-use Rattle.by_value.proofs.judged.two.Statement.{statement}
-use Rattle.by_value.proofs.judged.two.Tie as tie
+use Rattle.judged.proofs.two.Statement.{statement}
+use Rattle.judged.proofs.two.Tie as tie
 
 take-two-requires : tie.Need-take-two-requires
 take-two-requires c κs = tt

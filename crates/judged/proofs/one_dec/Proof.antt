@@ -1,7 +1,7 @@
--- `judged::one_dec` meets its contract: what is found wrong is refused, and a sound operand is answered.
+-- `one_dec` meets its contract: what is found wrong is refused, and a sound operand is answered.
 use Rattle.operands.proofs.TakenLaws.{sound₁, given₁, refused₁}
-use Rattle.by_value.proofs.judged.one_dec.Statement.{statement}
-use Rattle.by_value.proofs.judged.one_dec.Tie as tie
+use Rattle.judged.proofs.one_dec.Statement.{statement}
+use Rattle.judged.proofs.one_dec.Tie as tie
 
 take-one-dec-requires : tie.Need-take-one-dec-requires
 take-one-dec-requires c κs = tt

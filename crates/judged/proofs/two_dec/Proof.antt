@@ -1,7 +1,7 @@
--- `judged::two_dec` meets its contract: what is found wrong is refused, and sound operands are answered.
+-- `two_dec` meets its contract: what is found wrong is refused, and sound operands are answered.
 use Rattle.operands.proofs.TakenLaws.{sound₂, given₂, refused₂}
-use Rattle.by_value.proofs.judged.two_dec.Statement.{statement}
-use Rattle.by_value.proofs.judged.two_dec.Tie as tie
+use Rattle.judged.proofs.two_dec.Statement.{statement}
+use Rattle.judged.proofs.two_dec.Tie as tie
 
 take-two-dec-requires : tie.Need-take-two-dec-requires
 take-two-dec-requires c κs = tt

@@ -1,11 +1,11 @@
 -- Truth values that answer a question: made by a test, and read by a branch.
-use mathlib.Core.Bool.{Bool, true, false}
+use mathlib.Core.Bool.{Bool, true, false, not}
 use mathlib.Core.Logic.{_⊎_, inr, ⊎-elim}
 use mathlib.Core.Path.{_≡_, refl, sym, subst}
 use Prim.Native.Nat.{ℕ, _<_, _≤_}
 use borrow.Author.Tests.{ltb-true, ltb-false, leb-true, leb-false, eqb-true, eqb-false}
 use lib.Dec.{ltb, leb, eqb, T}
-use Rattle.interval.specs.Answers.{Answers, affirmed, denied}
+use Rattle.flags.specs.Answers.{Answers, affirmed, denied}
 
 by-test : {P : Type 0} (t : Bool) → (t ≡ true → P) → (t ≡ false → P → ⊥) → Answers P t
 by-test true p n = affirmed (p refl)
@@ -45,3 +45,8 @@ no-so f (denied n) e = denied (λ q. n (f q))
 -- The second part of an `or` whose first fails settles the whole.
 pub or-else : {P Q : Type 0} {t : Bool} → (P → ⊥) → Answers Q t → Answers (P ⊎ Q) t
 or-else n = answers-iff inr (⊎-elim (λ p. absurd (n p)) (λ q. q))
+
+-- The other truth value answers the denial.
+pub answers-not : {P : Type 0} {t : Bool} → Answers P t → Answers (P → ⊥) (not t)
+answers-not (affirmed p) = denied (λ n. n p)
+answers-not (denied n) = affirmed n

@@ -1,8 +1,8 @@
--- `judged::one` meets its contract: what is found wrong is refused, and a sound operand is answered.
+-- `one` meets its contract: what is found wrong is refused, and a sound operand is answered.
 use Rattle.interval.proofs.StatementLaws.{sound-bare}
 use Rattle.operands.proofs.TakenLaws.{sound₁, given₁, refused₁}
-use Rattle.by_value.proofs.judged.one.Statement.{statement}
-use Rattle.by_value.proofs.judged.one.Tie as tie
+use Rattle.judged.proofs.one.Statement.{statement}
+use Rattle.judged.proofs.one.Tie as tie
 
 take-one-requires : tie.Need-take-one-requires
 take-one-requires c κs = tt

@@ -1,0 +1,2 @@
+-- Laws of truth values that answer a question.
+pub mod AnswerLaws

@@ -1,0 +1,2 @@
+-- Truth values that answer a question.
+pub mod Answers
