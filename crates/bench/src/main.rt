@@ -2,17 +2,15 @@
 ghost use mathlib.Core.Bool.{true};
 ghost use mathlib.Core.Path.{_≡_};
 ghost use Prim.Native.Nat.{_<_};
-ghost use lib.ListN.{length};
-ghost use Rattle.request_laws.specs.Chunk.{requestSize};
 ghost use Rattle.bench.specs.Runs.{Ready, Onward};
 use bench_run::MOST;
-use bench_run::REPLY;
-use bench_run::REQUEST;
-use bench_run::answer_chunk;
 use bench_run::complete;
 use bench_run::keep_rest;
-use bench_run::reply_to_piece;
 use bench_run::too_many;
+use bench_run::too_short;
+use decorated_request::REPLY;
+use decorated_request::REQUEST;
+use decorated_request::answer_chunk;
 use libc::STDIN_FILENO;
 use libc::STDOUT_FILENO;
 
@@ -42,11 +40,9 @@ impl Run {
 }
 
 // The input has ended. What is left is no whole request.
-fn answer_piece(piece: &[u8])
-    requires { ⌜ length (now piece) < requestSize ⌝ }
-{
-    if piece.len() > 0 {
-        let answer = reply_to_piece(piece);
+fn answer_piece(held: usize) {
+    if held > 0 {
+        let answer = too_short();
         io::write_all(STDOUT_FILENO, &answer);
     }
 }
@@ -63,7 +59,7 @@ fn answer_some(run: Run, input: &mut [u8], output: &mut [u8]) -> Run
     }
     let arrived = io::count(got, &input[held..]);
     if arrived == 0 {
-        answer_piece(&input[..held]);
+        answer_piece(held);
         return Run::ENDED;
     }
     let filled = held + arrived;

@@ -1,4 +1,2 @@
--- Laws of replies and chunks.
+-- Laws of bytes that move.
 pub mod PlaceLaws
-pub mod ChunkLaws
-pub mod PieceLaws

@@ -1,8 +1,6 @@
 -- The bounds of a run, and the numbers that end one.
-use mathlib.Core.List.{List}
-use Prim.Native.Nat.{ℕ, _*_, _-_, _/_, _≤_, min}
-use lib.ListN.{length}
-use Rattle.request_laws.specs.Chunk.{requestSize, replySize}
+use Prim.Native.Nat.{ℕ, _-_, _/_, min}
+use Rattle.request_laws.specs.Chunk.{requestSize}
 
 -- "Any byte after request 4,096 gets one answer with number 7 and ends it."
 abbrev pub most : ℕ
@@ -18,9 +16,3 @@ tooShort = 1
 -- The requests that `held` bytes have whole, as far as a run goes that has answered some before.
 abbrev pub completeIn : (held answered : ℕ) → ℕ
 completeIn held answered = min (held / requestSize) (most - answered)
-
--- There are that many requests, and there is room for their replies.
-pub record Roomy (count : ℕ) (requests replies : List ℕ) : Type 0 where
-  pub few : count ≤ most
-  pub there : requestSize * count ≤ length requests
-  pub room : replySize * count ≤ length replies

@@ -2,8 +2,11 @@
 ghost use mathlib.Core.Path.{_≡_};
 ghost use Prim.Native.Nat.{_≤_};
 ghost use Rattle.bench_run.specs.Limit.{most, completeIn};
-use crate::replies::REQUEST;
 
+// The bytes of a request.
+const REQUEST: usize = 35;
+
+// The requests that a run answers.
 pub const MOST: usize = 4096;
 
 // The requests that can be answered now: the whole ones in so many bytes, as far as the run goes.

@@ -1,2 +1,3 @@
 -- What the contracts of decorated requests cite.
 pub mod Conversions
+pub mod Room

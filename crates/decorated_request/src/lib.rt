@@ -6,6 +6,7 @@ ghost use Rattle.meaning.specs.Requests.{DecoratedOutcome, DecoratedRequest, Re
 ghost use Rattle.request_laws.specs.Calls.{Tried};
 ghost use Rattle.decorated_request.specs.Conversions.{outcomeOf};
 
+mod chunk;
 mod operation;
 mod outcome;
 
@@ -14,6 +15,8 @@ use calls::NO_PLACE;
 use calls::Reply;
 use calls::UNKNOWN_OPERATION;
 use calls::decorated_at;
+pub use chunk::REPLY;
+pub use chunk::answer_chunk;
 use operation::one_operand;
 use operation::overlap_state;
 use operation::two_operands;
@@ -22,7 +25,7 @@ use operations::numbered;
 use outcome::Outcome;
 use outcome::finish;
 
-const REQUEST: usize = 35;
+pub const REQUEST: usize = 35;
 
 const NUMBER_AT: usize = 0;
 

@@ -38,14 +38,8 @@ part-count-end c = search needs
 count-requires : tie.Need-count-requires
 count-requires c κs = search needs
 
-slice-reshare-prefix-answer-piece : tie.Need-slice-reshare-prefix-answer-piece
-slice-reshare-prefix-answer-piece c = search needs
-
-slice-aggregate-answer-piece : tie.Need-slice-aggregate-answer-piece
-slice-aggregate-answer-piece c = sym (length-take-le _ _ (omega arith))
-
 answer-piece-requires : tie.Need-answer-piece-requires
-answer-piece-requires c κs = omega (arith, slice-aggregate-answer-piece c)
+answer-piece-requires c κs = search needs
 
 same-length-2 : tie.Need-same-length-2
 same-length-2 c = search needs
@@ -120,8 +114,6 @@ answer-some-spec =
     part-count-start
     part-count-end
     count-requires
-    slice-reshare-prefix-answer-piece
-    slice-aggregate-answer-piece
     answer-piece-requires
     same-length-2
     returns-2

@@ -7,7 +7,7 @@ use borrow.Author.Count.{below-more}
 use lib.ListN.{length, take, drop, length-drop, take-append-drop}
 use lib.Seq.{length-take-le, take-append-le, drop-append-le, take-at, drop-at, drop-drop}
 use Rattle.request_laws.specs.Chunk.{requestSize, replySize, part, Replied, Chunk}
-use Rattle.bench_run.proofs.PlaceLaws.{placed}
+use Rattle.decorated_request.proofs.PlaceLaws.{placed}
 
 -- Before the first request is answered nothing has changed.
 pub chunk-none : (input before : List ℕ) → Chunk 0 input before before

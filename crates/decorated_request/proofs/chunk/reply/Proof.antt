@@ -1,5 +1,5 @@
--- `replies::reply` meets its contract. The call is lent seventeen zero bytes, and what it leaves there is copied behind its number and its place.
-use mathlib.Core.Path.{_≡_, _∙_, ap}
+-- `chunk::reply` meets its contract. The call is lent seventeen zero bytes, and what it leaves there is copied behind its number and its place.
+use mathlib.Core.Path.{_≡_, refl, _∙_, ap}
 use mathlib.Core.List.{List, [], _∷_, _++_, append-nil}
 use Prim.Native.Nat.{ℕ}
 use native.Mathlib.Omega.{arith}
@@ -8,9 +8,9 @@ use lib.ListN.{length}
 use Rattle.patterns.specs.Format.{binary64}
 use Rattle.meaning.specs.Requests.{zeros, decoratedSize}
 use Rattle.request_laws.proofs.SmallLaws.{decorated-request-small}
-use Rattle.bench_run.proofs.PlaceLaws.{copied-over}
-use Rattle.bench_run.proofs.replies.reply.Statement.{statement}
-use Rattle.bench_run.proofs.replies.reply.Tie as tie
+use Rattle.calls.proofs.PlaceLaws.{copied-over}
+use Rattle.decorated_request.proofs.chunk.reply.Statement.{statement}
+use Rattle.decorated_request.proofs.chunk.reply.Tie as tie
 
 slice-aggregate-request-decorated : tie.Need-slice-aggregate-request-decorated
 slice-aggregate-request-decorated c = search needs
@@ -51,7 +51,7 @@ returns c =
     let answer = called .last .1 .0 in
     let seventeen : decoratedSize ≡ length answer = search needs in
     let copied : c .before .copy .last .1 .0 ++ [] ≡ answer =
-    append-nil (c .before .copy .last .1 .0) ∙ c .before .copy .ensures .1 ∙ copied-over answer (zeros decoratedSize) seventeen in
+    append-nil (c .before .copy .last .1 .0) ∙ c .before .copy .ensures .1 ∙ copied-over (length answer) answer (zeros decoratedSize) refl seventeen in
     record {
       left = record { number = called .result .number; place = called .result .place; after = answer };
       called = called .ensures;
