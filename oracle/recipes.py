@@ -31,7 +31,7 @@ class Recipes:
         everywhere = (self.edges, self.anywhere, self.near, self.few_values, self.signs)
         sums = (self.halfway_sum, self.cancelling, self.large_sum)
         products = (self.scaled_product, self.short_product)
-        quotients = (self.exact_quotient, self.scaled_quotient, self.small_halves,
+        quotients = (self.exact_quotient, self.nearest_quotient, self.scaled_quotient, self.small_halves,
                      self.divisor_at_zero, self.divisor_at_zero)
         wholes = (self.halves, self.halves, self.large_halves, self.near_one)
         self.by_operation = {number: everywhere for number in NUMBER.values()}
@@ -137,6 +137,18 @@ class Recipes:
         divisor = float(self.bits(26) + 1)
         first = divisor * (self.bits(26) - (1 << 25))
         return [self.nudged(first), first, divisor, self.nudged(divisor)]
+
+    def nearest_quotient(self):
+        """A quotient as near to a double as any is that is none."""
+        m = 0
+        while m < 1 << 52:
+            divisor, away = self.bits(53) | 1 << 52 | 1, self.pick((-1, 1))
+            m = -away * pow(divisor, -1, 1 << 53) % (1 << 53)
+        first = ldexp((m * divisor + away) >> 53, self.below(900) - 450)
+        second = ldexp(divisor, self.below(900) - 450)
+        if self.bits(1):
+            first = -first
+        return [first, self.nudged(first), second, second]
 
     def small_halves(self):
         """Halves and thirds of the smallest double, as products and quotients."""

@@ -185,6 +185,18 @@ def quotient_by_subnormal(rng):
     return pattern(field(rng, 0, 1100), fraction(rng)), max(1, rng.getrandbits(rng.randint(1, FRACTION)))
 
 
+def quotient_least(rng):
+    """Quotients next to a number of 53 digits: no dividend is nearer to that number times the divisor."""
+    m = 0
+    while m < UNIT:
+        y, away = odd(rng, DIGITS), rng.choice((-1, 1))
+        m = -away * pow(y, -1, 1 << DIGITS) % (1 << DIGITS)
+    x = (m * y + away) >> DIGITS
+    above = rng.randint(0, 1990) - POINT + DIGITS
+    low = rng.randint(max(0, -above), min(TOP, TOP - above))
+    return encode(x, low + above), encode(y, low)
+
+
 def quotient_near_one(rng):
     a = pattern(field(rng), fraction(rng))
     return a, within(a + rng.randint(-40, 40))
@@ -194,7 +206,7 @@ SHARED = [ends, near_ends, any_exponents, near_exponents, subnormal]
 KINDS = {
     SUM: SHARED + [sum_halfway, sum_cancels, sum_cancels_below, sum_at_guard, sum_far_apart, sum_overflows],
     PRODUCT: SHARED + [product_halfway, product_below, product_overflows, product_vanishes],
-    QUOTIENT: SHARED + [quotient_exact, quotient_halfway, quotient_below, quotient_overflows, quotient_by_subnormal, quotient_near_one],
+    QUOTIENT: SHARED + [quotient_exact, quotient_halfway, quotient_below, quotient_overflows, quotient_by_subnormal, quotient_least, quotient_near_one],
 }
 
 
