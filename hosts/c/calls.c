@@ -1,9 +1,13 @@
 /* Every call of the archive: every refusal, the untouched output, and input and output of many lengths. */
+#define _DEFAULT_SOURCE
+
 #include "muenglavot.h"
 
 #include <stdio.h>
 #include <stdlib.h>
 #include <string.h>
+#include <sys/mman.h>
+#include <unistd.h>
 
 typedef uint32_t (*Call)(const uint8_t *, size_t, uint8_t *, size_t);
 
@@ -19,29 +23,53 @@ static void expect(int right, const char *what, unsigned detail)
     }
 }
 
-/* Runs a call on buffers of exactly the given lengths, so that a step outside is seen by a checker of addresses, and
- * compares what is returned and the whole output: `after` if it is given, and else what was there before. */
+/* A buffer of exactly some length between two pages that nobody may touch: it ends at the second one, or starts at the first, so
+ * that a step outside ends the program. */
+typedef struct {
+    uint8_t *pages, *bytes;
+    size_t size;
+} Lent;
+
+static Lent lend(size_t len, int at_end)
+{
+    size_t page = (size_t)sysconf(_SC_PAGESIZE), inside = (len / page + 1) * page;
+    Lent lent = {NULL, NULL, inside + 2 * page};
+
+    lent.pages = mmap(NULL, lent.size, PROT_NONE, MAP_PRIVATE | MAP_ANONYMOUS, -1, 0);
+    if (lent.pages == MAP_FAILED || mprotect(lent.pages + page, inside, PROT_READ | PROT_WRITE) != 0) {
+        exit(1);
+    }
+    lent.bytes = lent.pages + page + (at_end ? inside - len : 0);
+    return lent;
+}
+
+/* Runs a call on such buffers, and compares what is returned and the whole output: `after` if it is given, and else what was
+ * there before. */
+static void run_at(Call call, const uint8_t *input, size_t in_len, size_t out_len, uint32_t reply, const uint8_t *after,
+                   const char *what, int at_end)
+{
+    Lent in = lend(in_len, at_end), out = lend(out_len, at_end), before = lend(out_len, at_end);
+
+    for (size_t i = 0; i < in_len; i++) {
+        in.bytes[i] = input ? input[i] : (uint8_t)(i * 37 + 11);
+    }
+    for (size_t i = 0; i < out_len; i++) {
+        before.bytes[i] = (uint8_t)(i * 91 + 7);
+        out.bytes[i] = before.bytes[i];
+    }
+    uint32_t got = call(in.bytes, in_len, out.bytes, out_len);
+    expect(got == reply, what, got);
+    expect(memcmp(out.bytes, after ? after : before.bytes, out_len) == 0, what, (unsigned)out_len);
+    munmap(in.pages, in.size);
+    munmap(out.pages, out.size);
+    munmap(before.pages, before.size);
+}
+
 static void run(Call call, const uint8_t *input, size_t in_len, size_t out_len, uint32_t reply, const uint8_t *after,
                 const char *what)
 {
-    uint8_t *in = malloc(in_len ? in_len : 1), *out = malloc(out_len ? out_len : 1), *before = malloc(out_len ? out_len : 1);
-
-    if (!in || !out || !before) {
-        exit(1);
-    }
-    for (size_t i = 0; i < in_len; i++) {
-        in[i] = input ? input[i] : (uint8_t)(i * 37 + 11);
-    }
-    for (size_t i = 0; i < out_len; i++) {
-        before[i] = (uint8_t)(i * 91 + 7);
-        out[i] = before[i];
-    }
-    uint32_t got = call(in, in_len, out, out_len);
-    expect(got == reply, what, got);
-    expect(memcmp(out, after ? after : before, out_len) == 0, what, (unsigned)out_len);
-    free(in);
-    free(out);
-    free(before);
+    run_at(call, input, in_len, out_len, reply, after, what, 0);
+    run_at(call, input, in_len, out_len, reply, after, what, 1);
 }
 
 static void number(uint8_t *bytes, double value)
