@@ -14,14 +14,11 @@ import shlex
 import sys
 
 from compare import answers, driver
-from differences import NAI, ill_pair, unread
-from document import ANSWER, ILL, OPERAND, operand_refusal, operands, refused
-from generate import Generator
-
-
-def turned(interval):
-    """The same interval in the other byte order."""
-    return interval[7::-1] + interval[15:7:-1] + interval[16:]
+from differences import unread
+from document import ANSWER, ILL, OPERAND, operand_refusal, operands, refused, turned
+from forms import ill_pair
+from reference import NAI
+from request_lists import Generator
 
 
 def expected(kind, interval):

@@ -1,10 +1,10 @@
 #!/usr/bin/env python3
 """Runs the port and the crate on the same requests and compares their answers.
 
-    oracle/compare.py --kind bare|decorated --ours CMD [--chunk N] [REQUESTS]
+    oracle/compare.py --kind bare|decorated|values --ours CMD [--chunk N] [REQUESTS]
 
-Both sides read requests from standard input and write number, place and answer
-for each. REQUESTS is a file (default: standard input). With --chunk our command
+Both sides read requests, or records of calls by value, from standard input and write
+number, place and answer for each. REQUESTS is a file (default: standard input). With --chunk our command
 is run anew for every N requests. The last line is 'N passed, M failed', where a
 listed difference has passed; the exit status is 0 only if none has failed.
 """
@@ -17,7 +17,8 @@ from collections import Counter
 from pathlib import Path
 
 from differences import DIFFERENCES, judge
-from document import ANSWER, ILL, NUMBER, OPERATIONS, REQUEST, refusal
+from document import ILL, NUMBER
+from forms import FORMS
 
 DRIVER = Path(__file__).resolve().parent.parent / 'target' / 'oracle' / 'driver'
 # How many unexplained differences are printed.
@@ -54,34 +55,33 @@ def split(joined, length):
     return [joined[at:at + length] for at in range(0, len(joined), length)]
 
 
-def nai_second(request):
+def nai_second(form, request):
     """Whether only the second operand of a maximum or minimum is NaI."""
-    return (request[0] in (NUMBER['max'], NUMBER['min'])
-            and len(request) == REQUEST['decorated']
-            and request[17] != ILL and request[34] == ILL and refusal(request) == (0, 0))
+    return (form.decorated_operation(request) in (NUMBER['max'], NUMBER['min'])
+            and request[17] != ILL and request[34] == ILL and form.refusal(request) == (0, 0))
 
 
-def compare(rows):
-    """Counts by operation and verdict, the rows not explained, and a side count."""
+def compare(form, rows):
+    """Counts by function and verdict, the rows not explained, and a side count."""
     found, unexplained, second = Counter(), [], 0
     for row in rows:
-        verdict = judge(*row)
-        number = row[0][0]
-        found[OPERATIONS[number - 1] if 1 <= number <= 17 else 'other', verdict] += 1
+        verdict = judge(form, *row)
+        found[form.name(row[0]), verdict] += 1
         if verdict is None:
             unexplained.append(row)
-        elif nai_second(row[0]):
+        elif nai_second(form, row[0]):
             second += 1
     return found, unexplained, second
 
 
-def report(found, unexplained, second):
-    print(f'{"operation":16}{"requests":>10}{"equal":>10}{"explained":>10}{"unexplained":>12}')
-    for operation in (*OPERATIONS, 'other'):
-        verdicts = {name: count for (of, name), count in found.items() if of == operation}
+def report(form, found, unexplained, second):
+    width = max(map(len, form.names)) + 2
+    print(f'{"function":{width}}{"requests":>10}{"equal":>10}{"explained":>10}{"unexplained":>12}')
+    for function in (*form.names, None):
+        verdicts = {name: count for (of, name), count in found.items() if of == function}
         total = sum(verdicts.values())
         equal, failed = verdicts.get('equal', 0), verdicts.get(None, 0)
-        print(f'{operation:16}{total:10}{equal:10}{total - equal - failed:10}{failed:12}')
+        print(f'{function or "other":{width}}{total:10}{equal:10}{total - equal - failed:10}{failed:12}')
     for name in DIFFERENCES:
         count = sum(count for (_, verdict), count in found.items() if verdict == name)
         print(f'explained by {name}: {count}')
@@ -93,21 +93,22 @@ def report(found, unexplained, second):
 
 def main():
     parser = argparse.ArgumentParser(description='Compares the port with the crate.')
-    parser.add_argument('--kind', choices=REQUEST, required=True)
+    parser.add_argument('--kind', choices=FORMS, required=True)
     parser.add_argument('--ours', required=True, help='the command of the port')
     parser.add_argument('--chunk', type=int, help='requests to a run of our command')
     parser.add_argument('requests', nargs='?', help='a file of requests')
     given = parser.parse_args()
     theirs = driver(given.kind)
+    form = FORMS[given.kind]
     joined = Path(given.requests).read_bytes() if given.requests else sys.stdin.buffer.read()
-    if not joined or len(joined) % REQUEST[given.kind]:
-        stop(f'{len(joined)} bytes are not a number of {given.kind} requests')
-    requests = split(joined, REQUEST[given.kind])
-    found, unexplained, second = compare(zip(
+    if not joined or len(joined) % form.length:
+        stop(f'{len(joined)} bytes are not a number of requests of {form.length} bytes')
+    requests = split(joined, form.length)
+    found, unexplained, second = compare(form, zip(
         requests,
-        answers(shlex.split(given.ours), requests, ANSWER[given.kind], given.chunk),
-        answers(theirs, requests, ANSWER[given.kind])))
-    report(found, unexplained, second)
+        answers(shlex.split(given.ours), requests, form.answer_length, given.chunk),
+        answers(theirs, requests, form.answer_length)))
+    report(form, found, unexplained, second)
     sys.exit(1 if unexplained else 0)
 
 

@@ -1,16 +1,16 @@
 """The differences between the crate and document 01, and the verdict on two answers.
 
 The port follows document 01. Each difference says where it applies, and what both
-sides answer there; README.md has it in words. Elsewhere the answers are equal.
+sides answer there; docs/DIFFERENCES.md has it in words. Elsewhere the answers are equal.
 """
 
-from document import (
-    COM, DAC, ENDS, ILL, NUMBER, OPERAND, REQUEST, operands, proper, refusal)
+from math import inf
 
-# The driver's number for bytes that the crate does not read.
+from document import COM, DAC, ENDS, NUMBER
+
+# The driver's numbers for what the crate does not read, and for what it cannot be asked.
 UNREAD = 255
-NAI = bytes.fromhex('7ff80000000000007ff800000000000000')
-NAI_OVERLAP = bytes([16]) + bytes(16)
+NOT_ASKED = 254
 ZERO = ENDS.pack(-0.0, 0.0)
 
 
@@ -18,52 +18,66 @@ def unread(length, place):
     return bytes((UNREAD, place)) + bytes(length - 2)
 
 
-def ill_pair(operand):
-    """Whether an operand is a proper pair with the decoration Ill."""
-    return (len(operand) == OPERAND['decorated'] and operand[16] == ILL
-            and proper(*ENDS.unpack_from(operand)))
+# Where a difference applies: said of a request of some form, and of document 01's number
+# and place for it.
 
-
-# Where a difference applies: said of a request and document 01's number and place.
-
-def unknown_operation(request, number, place):
+def unknown_operation(form, request, number, place):
     return number == 3
 
 
-def refused_operand(request, number, place):
+def refused_operand(form, request, number, place):
     return number in (4, 5, 6)
 
 
-def refused_ill_pair(request, number, place):
-    return number == 6 and ill_pair(operands(request)[place - 1])
+def refused_ill_pair(form, request, number, place):
+    return number == 6 and form.ill_pair_at(request, place)
 
 
-def trunc_to_zero(request, number, place):
+def trunc_to_zero(form, request, number, place):
     """A Com operand with an end that is 0, and of which nothing but 0 is left."""
-    if number or request[0] != NUMBER['trunc'] or len(request) != REQUEST['decorated']:
+    if number or form.decorated_operation(request) != NUMBER['trunc']:
         return False
     a, b = ENDS.unpack_from(request, 1)
     return request[17] == COM and -1 < a <= b < 1 and 0 in (a, b)
 
 
+def try_from_empty_ends(form, request, number, place):
+    return (not number and form.name(request) in ('Interval::try_from', 'DecInterval::try_from')
+            and ENDS.unpack_from(request, 1) == (inf, -inf))
+
+
+def not_in_the_crate(form, request, number, place):
+    return not number and form.name(request) in NOT_IN_THE_CRATE
+
+
+# The crate's classify is private, and its constants cannot be had.
+NOT_IN_THE_CRATE = frozenset((
+    'try_classify', 'Interval::EMPTY', 'Interval::ENTIRE', 'DecInterval::EMPTY',
+    'DecInterval::NAI'))
+
+
 # What is answered there. That our number and place are right is known by then.
 
-def crate_has_no_number(request, ours, theirs):
+def crate_has_no_number(form, request, ours, theirs):
     return theirs == unread(len(ours), ours[1])
 
 
-def crate_takes_it_for_nai(request, ours, theirs):
-    read = request[:1] + b''.join(
-        NAI if ill_pair(operand) else operand for operand in operands(request))
-    number, place = refusal(read)
-    if number:
-        return theirs == unread(len(ours), place)
-    return theirs == bytes(2) + (NAI_OVERLAP if request[0] == NUMBER['overlap'] else NAI)
+def crate_takes_it_for_nai(form, request, ours, theirs):
+    read = form.answer(form.with_nai(request))
+    return theirs == (unread(len(ours), read[1]) if read[0] else read)
 
 
-def ours_dac_theirs_com(request, ours, theirs):
+def ours_dac_theirs_com(form, request, ours, theirs):
     point = bytes(2) + ZERO
     return ours == point + bytes([DAC]) and theirs == point + bytes([COM])
+
+
+def ours_empty_theirs_unread(form, request, ours, theirs):
+    return ours == form.answer(request) and theirs == unread(len(ours), 1)
+
+
+def ours_by_the_document(form, request, ours, theirs):
+    return ours == form.answer(request) and theirs == bytes((NOT_ASKED, 0)) + bytes(len(ours) - 2)
 
 
 # The first that applies decides: where one does, equal answers are wrong too.
@@ -72,15 +86,17 @@ DIFFERENCES = {
     'Ill on a proper pair': (refused_ill_pair, crate_takes_it_for_nai),
     'refusal number': (refused_operand, crate_has_no_number),
     'trunc at a zero end': (trunc_to_zero, ours_dac_theirs_com),
+    "try_from of EMPTY's ends": (try_from_empty_ends, ours_empty_theirs_unread),
+    'not in the crate': (not_in_the_crate, ours_by_the_document),
 }
 
 
-def judge(request, ours, theirs):
+def judge(form, request, ours, theirs):
     """'equal', the name of the difference that explains the answers, or None."""
-    number, place = refusal(request)
+    number, place = form.refusal(request)
     if ours[:2] != bytes((number, place)) or number and any(ours[2:]):
         return None
     for name, (applies, explains) in DIFFERENCES.items():
-        if applies(request, number, place):
-            return name if explains(request, ours, theirs) else None
+        if applies(form, request, number, place):
+            return name if explains(form, request, ours, theirs) else None
     return 'equal' if ours == theirs else None

@@ -30,17 +30,23 @@ def operands(request):
     return request[1:1 + length], request[1 + length:]
 
 
-def proper(a, b):
-    """Whether two ends are a proper pair, zeros written as the bytes have them."""
+def turned(interval):
+    """The bytes of an interval in the other byte order."""
+    return interval[7::-1] + interval[15:7:-1] + interval[16:]
+
+
+def proper(a, b, by_value=False):
+    """Whether two ends are a proper pair: as bytes with the zeros that the bytes have,
+    by value with zeros of either sign."""
     return (a <= b and a != inf and b != -inf
-            and (a != 0 or copysign(1, a) < 0)
-            and (b != 0 or copysign(1, b) > 0))
+            and (by_value or (a != 0 or copysign(1, a) < 0)
+                 and (b != 0 or copysign(1, b) > 0)))
 
 
-def operand_refusal(operand):
-    """The number an operand's bytes are refused with, 0 if they are accepted."""
+def operand_refusal(operand, by_value=False):
+    """The number an operand is refused with, 0 if it is accepted."""
     a, b = ENDS.unpack_from(operand)
-    is_proper = proper(a, b)
+    is_proper = proper(a, b, by_value)
     is_empty = a == inf and b == -inf
     if len(operand) == OPERAND['bare']:
         return 0 if is_proper or is_empty else 5

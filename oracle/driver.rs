@@ -1,49 +1,60 @@
-//! Answers requests by calling the crate inari.
+//! Answers requests, and records of calls by value, by calling the crate inari.
 //!
 //! `driver bare` reads requests of 33 bytes and writes 18 for each,
 //! `driver decorated` reads 35 and writes 19: number, place, answer.
 //! `driver bare-be-to-le` and the like read intervals of 16 or 17 bytes in one
 //! byte order and write 18 or 19: number, place, the interval in the other order.
+//! `driver values` reads records of 35 bytes, as crates/value_run does, and writes
+//! 19 for each.
 //!
 //! The crate has no refusal numbers. Where it refuses an operand's bytes, the
 //! number is 255 with the operand's place; for an operation number that is not
-//! 1 to 17 it is 255 with place 0. The answer is then all zero.
+//! 1 to 17, or a function number that is none, it is 255 with place 0. Where the
+//! crate cannot be asked, the number is 254. The answer is then all zero.
+
+mod values;
 
 use inari::{DecInterval, Interval};
 use std::io::{self, BufReader, BufWriter, Read, Write};
 use std::process::ExitCode;
 
 const REFUSED: u8 = 255;
+const NOT_ASKED: u8 = 254;
 
 /// The overlap state of two decorated intervals if one is NaI: the crate says
 /// `None`, document 01 says 16.
 const NAI_OVERLAP: u8 = 16;
 
-/// What was answered: N bytes, or the place of the operand that was refused.
-type Answer<const N: usize> = Result<[u8; N], u8>;
+/// Stands last in the answer where the crate says that NaI has no interval part.
+const MISSING: u8 = 255;
 
-fn state<const N: usize>(number: u8) -> [u8; N] {
-    let mut bytes = [0; N];
-    bytes[0] = number;
-    bytes
+/// What was answered: N bytes, or a number and the place of an operand.
+type Answer<const N: usize> = Result<[u8; N], [u8; 2]>;
+
+/// Bytes with zeros behind them.
+fn padded<const N: usize>(bytes: &[u8]) -> [u8; N] {
+    let mut all = [0; N];
+    all[..bytes.len()].copy_from_slice(bytes);
+    all
 }
 
-/// Applies the operation to the two operands, which start at byte 1 and are N
-/// bytes long each. The second is read only by the operations that have two.
-macro_rules! answer {
+/// The operand at a place of a request whose operands are N bytes long each.
+fn bytes_at<const N: usize>(request: &[u8], place: u8) -> [u8; N] {
+    let from = 1 + (usize::from(place) - 1) * N;
+    <[u8; N]>::try_from(&request[from..from + N]).unwrap()
+}
+
+/// Applies the operation with a number to its operands. The second is asked for
+/// only by the operations that have two.
+macro_rules! operation {
     ($name:ident, $Type:ty, $N:literal, $overlap:expr) => {
-        fn $name(request: &[u8]) -> Answer<$N> {
-            let operand = |place: u8| {
-                let from = 1 + (usize::from(place) - 1) * $N;
-                let bytes = <[u8; $N]>::try_from(&request[from..from + $N]).unwrap();
-                <$Type>::try_from_be_bytes(bytes).ok_or(place)
-            };
-            let operation = request[0];
-            if !(1..=17).contains(&operation) {
-                return Err(0);
+        fn $name(number: u8, operand: impl Fn(u8) -> Option<$Type>) -> Answer<$N> {
+            let operand = |place| operand(place).ok_or([REFUSED, place]);
+            if !(1..=17).contains(&number) {
+                return Err([REFUSED, 0]);
             }
             let x = operand(1)?;
-            let result = match operation {
+            let result = match number {
                 1 => -x,
                 10 => x.abs(),
                 11 => x.ceil(),
@@ -54,7 +65,7 @@ macro_rules! answer {
                 16 => x.trunc(),
                 _ => {
                     let y = operand(2)?;
-                    match operation {
+                    match number {
                         2 => x + y,
                         3 => x - y,
                         4 => x * y,
@@ -63,7 +74,7 @@ macro_rules! answer {
                         7 => x.intersection(y),
                         8 => x.max(y),
                         9 => x.min(y),
-                        _ => return Ok(state($overlap(x, y))),
+                        _ => return Ok(padded(&[$overlap(x, y)])),
                     }
                 }
             };
@@ -72,17 +83,25 @@ macro_rules! answer {
     };
 }
 
-answer!(bare, Interval, 16, |x: Interval, y| x.overlap(y) as u8);
-answer!(decorated, DecInterval, 17, |x: DecInterval, y| x
+operation!(bare_operation, Interval, 16, |x: Interval, y| x.overlap(y) as u8);
+operation!(decorated_operation, DecInterval, 17, |x: DecInterval, y| x
     .overlap(y)
     .map_or(NAI_OVERLAP, |state| state as u8));
+
+fn bare(request: &[u8]) -> Answer<16> {
+    bare_operation(request[0], |place| Interval::try_from_be_bytes(bytes_at(request, place)))
+}
+
+fn decorated(request: &[u8]) -> Answer<17> {
+    decorated_operation(request[0], |place| DecInterval::try_from_be_bytes(bytes_at(request, place)))
+}
 
 /// Reads an interval in one byte order and writes it in the other.
 macro_rules! convert {
     ($name:ident, $Type:ty, $N:literal, $read:ident, $write:ident) => {
         fn $name(bytes: &[u8]) -> Answer<$N> {
             let bytes = <[u8; $N]>::try_from(bytes).unwrap();
-            <$Type>::$read(bytes).map(<$Type>::$write).ok_or(1)
+            <$Type>::$read(bytes).map(<$Type>::$write).ok_or([REFUSED, 1])
         }
     };
 }
@@ -116,7 +135,7 @@ fn run<const LEN: usize, const N: usize>(answer: fn(&[u8]) -> Answer<N>) -> io::
         }
         let (head, bytes) = match answer(&request) {
             Ok(bytes) => ([0, 0], bytes),
-            Err(place) => ([REFUSED, place], [0; N]),
+            Err(head) => (head, [0; N]),
         };
         output.write_all(&head)?;
         output.write_all(&bytes)?;
@@ -131,7 +150,8 @@ fn main() -> ExitCode {
         Some("bare-le-to-be") => run::<16, 16>(bare_le_to_be),
         Some("decorated-be-to-le") => run::<17, 17>(decorated_be_to_le),
         Some("decorated-le-to-be") => run::<17, 17>(decorated_le_to_be),
-        _ => Err(io::Error::other("name one of the six forms")),
+        Some("values") => run::<35, 17>(values::answer),
+        _ => Err(io::Error::other("name one of the seven forms")),
     };
     if let Err(error) = done {
         eprintln!("driver: {error}");

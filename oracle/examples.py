@@ -1,12 +1,11 @@
 #!/usr/bin/env python3
 """Checks the crate's documented examples and document 01's cases.
 
-    oracle/examples.py [--bare CMD] [--decorated CMD]
+    oracle/examples.py [--bare CMD] [--decorated CMD] [--values CMD]
 
-Each line of examples.txt and cases.txt goes to the driver over the crate, whose
-answer may differ as differences.py lists, to the reference, and to the port where its
-command for bare or decorated requests is given; these two must answer exactly so.
-The last line is 'N passed, M failed'.
+Each line of the three lists goes to the driver over the crate, whose answer may differ as
+differences.py lists, to the reference, and to the port where its command for that kind is
+given; these two must answer exactly so. The last line is 'N passed, M failed'.
 """
 
 import argparse
@@ -14,47 +13,54 @@ import shlex
 import sys
 from pathlib import Path
 
-import reference
 from compare import answers, driver
 from differences import judge
-from document import ANSWER, REQUEST
+from forms import FORMS
 
-FILES = ('examples.txt', 'cases.txt')
+HERE = Path(__file__).resolve().parent
+# Lists of requests, whose length says their kind, and of records of calls by value.
+REQUESTS = ('examples.txt', 'cases.txt')
+RECORDS = 'value_examples.txt'
 
 
-def lines_of(path):
-    """The requests of a file with their answers and names."""
-    for line in path.read_text().splitlines():
+def lines_of(name):
+    """The requests of a list with their answers and names."""
+    for line in (HERE / name).read_text().splitlines():
         if line and not line.startswith('#'):
             request, answer, name = line.split('|')
             yield bytes.fromhex(request), bytes.fromhex(answer), name.strip()
 
 
+def lines_by_kind():
+    requests = [line for name in REQUESTS for line in lines_of(name)]
+    for kind in ('bare', 'decorated'):
+        yield kind, [line for line in requests if len(line[0]) == FORMS[kind].length]
+    yield 'values', list(lines_of(RECORDS))
+
+
 def checks(kind, lines, port):
     """Of each line and each side: a title, and whether the side's answer is right."""
+    form = FORMS[kind]
     requests = [request for request, _, _ in lines]
     for (request, answer, name), theirs in zip(
-            lines, answers(driver(kind), requests, ANSWER[kind])):
-        yield f'crate: {name}: {theirs.hex()}', judge(request, answer, theirs) is not None
-        found = reference.answer(request)
+            lines, answers(driver(kind), requests, form.answer_length)):
+        yield f'crate: {name}: {theirs.hex()}', judge(form, request, answer, theirs) is not None
+        found = form.answer(request)
         yield f'reference: {name}: {found.hex()}', found == answer
     if port:
-        ours = answers(shlex.split(port), requests, ANSWER[kind])
+        ours = answers(shlex.split(port), requests, form.answer_length)
         for (_, answer, name), found in zip(lines, ours):
             yield f'port: {name}: {found.hex()}', found == answer
 
 
 def main():
     parser = argparse.ArgumentParser(description='Checks the listed examples and cases.')
-    for kind in REQUEST:
-        parser.add_argument(f'--{kind}', help=f"the port's command for {kind} requests")
+    for kind in FORMS:
+        parser.add_argument(f'--{kind}', help=f"the port's command for {kind}")
     given = vars(parser.parse_args())
-    here = Path(__file__).resolve().parent
-    lines = [line for name in FILES for line in lines_of(here / name)]
     passed = failed = 0
-    for kind, length in REQUEST.items():
-        of_kind = [line for line in lines if len(line[0]) == length]
-        for title, right in checks(kind, of_kind, given[kind]):
+    for kind, lines in lines_by_kind():
+        for title, right in checks(kind, lines, given[kind]):
             passed += right
             failed += not right
             if not right:

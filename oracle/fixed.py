@@ -1,23 +1,27 @@
 #!/usr/bin/env python3
-"""Makes the fixed list: the stored input and output of the bench program.
+"""Makes the fixed lists: the stored input and output of the programs bench and value_run.
 
-From a long run of the generator it takes one request for each situation that
-arises, then others from the start, up to the size. An answer is the crate's where
+From a long run of a generator each takes one request for each situation that arises, the
+bench program's then others from the start, up to its size. An answer is the crate's where
 the crate and document 01 agree, and document 01's where a difference is listed.
 """
 
 from pathlib import Path
 
-import reference
+import record_lists
+import request_lists
+import values
 from compare import answers, driver, stop
 from differences import judge
-from document import ANSWER, ENDS, NUMBER, ONE_OPERAND, operands, refusal
-from generate import Generator
+from document import ENDS, NUMBER, ONE_OPERAND, operands, proper, refusal, refused
+from forms import FORMS
 
-KIND = 'decorated'
 SEED = 1788
 DRAWN = 200_000
+# The least size of the bench program's list.
 SIZE = 4_000
+# Document 01's number for a last piece, which ends the list of value_run.
+TOO_SHORT = 1
 
 
 def sort_of(operand):
@@ -28,7 +32,7 @@ def sort_of(operand):
     return 'EMPTY' if a > b else ((a > 0) - (a < 0), (b > 0) - (b < 0))
 
 
-def situation(request, answer):
+def request_situation(request, answer):
     """The operation, and the refusal, or the sorts of operands and the answer's last byte."""
     operation = request[0]
     number, place = refusal(request)
@@ -41,34 +45,58 @@ def situation(request, answer):
     return operation, told, *map(sort_of, given)
 
 
-def chosen(requests, crate):
+def record_situation(record, answer):
+    """The function, and the refusal, or whether the first operand is NaI, EMPTY, or has a
+    zero of the other sign."""
+    number, place = values.refusal(record)
+    if number == 3:
+        return number
+    if number:
+        return record[0], number, place
+    told = []
+    for _, way, operand in values.taken(record)[:1]:
+        ends = ENDS.unpack_from(way.judged(operand))
+        told = ends[0] != ends[0], ends[0] > ends[1], proper(*ends)
+    return record[0], *told
+
+
+def chosen(situation, requests, crate, size):
     """The places of the requests to keep."""
     first = {}
     for at, pair in enumerate(zip(requests, crate)):
         first.setdefault(situation(*pair), at)
     kept = set(first.values())
     for at in range(len(requests)):
-        if len(kept) >= SIZE:
+        if len(kept) >= size:
             break
         kept.add(at)
     return sorted(kept)
 
 
-def main():
-    requests = list(Generator(KIND, SEED).requests(DRAWN))
-    crate = list(answers(driver(KIND), requests, ANSWER[KIND]))
-    places = chosen(requests, crate)
+def make(program, kind, requests, situation, size=0, piece=b''):
+    form = FORMS[kind]
+    crate = list(answers(driver(kind), requests, form.answer_length))
+    places = chosen(situation, requests, crate, size)
     kept = []
     for at in places:
-        ours = reference.answer(requests[at])
-        verdict = judge(requests[at], ours, crate[at])
+        ours = form.answer(requests[at])
+        verdict = judge(form, requests[at], ours, crate[at])
         if verdict is None:
             stop(f'the crate and the reference differ on {requests[at].hex()}')
         kept.append(crate[at] if verdict == 'equal' else ours)
-    bench = Path(__file__).resolve().parent.parent / 'crates' / 'bench'
-    (bench / 'stdin').write_bytes(b''.join(requests[at] for at in places))
-    (bench / 'stdout').write_bytes(b''.join(kept))
-    print(f'{len(places)} requests')
+    folder = Path(__file__).resolve().parent.parent / 'crates' / program
+    if piece:
+        kept.append(refused('decorated', TOO_SHORT, 0))
+    (folder / 'stdin').write_bytes(b''.join(requests[at] for at in places) + piece)
+    (folder / 'stdout').write_bytes(b''.join(kept))
+    print(f'{program}: {len(places)}')
+
+
+def main():
+    requests = list(request_lists.Generator('decorated', SEED).requests(DRAWN))
+    make('bench', 'decorated', requests, request_situation, SIZE)
+    records = list(record_lists.Generator(SEED).records(DRAWN))
+    make('value_run', 'values', records, record_situation, piece=records[0][:-1])
 
 
 if __name__ == '__main__':

@@ -1,192 +1,38 @@
 #!/usr/bin/env python3
-"""Writes requests to standard output, the same ones for the same arguments.
+"""Writes requests, or records of calls by value, to standard output, the same ones for
+the same arguments.
 
-    oracle/generate.py --kind bare|decorated --seed N --count N
-    oracle/generate.py --kind bare|decorated --exhaustive
-
-The first form goes round the operations 1 to 17. Its ends come from recipes that
-each seek out one sort of trouble; some operands and requests are then spoilt.
-The second form takes all pairs of intervals with ends from a fixed set.
+    oracle/generate.py --kind bare|decorated|values --seed N --count N
+    oracle/generate.py --kind bare|decorated|values --exhaustive
 """
 
 import argparse
-import random
 import sys
-from math import inf, ldexp, nextafter
-from struct import Struct
+from itertools import islice
 
-from document import (
-    COM, DAC, DECORATIONS, DEF, ENDS, ILL, NUMBER, ONE_OPERAND, OPERAND, TRV)
-from recipes import LARGEST, NORMAL, TINY, Recipes, both_signs
+import record_lists
+import request_lists
 
-PATTERNS = Struct('>QQ')
-QUIET = 0x7FF8000000000000
-SIGNALLING = 0x7FF0000000000001
-EMPTY = ENDS.pack(inf, -inf)
-ENTIRE = ENDS.pack(-inf, inf)
-
+KINDS = ('bare', 'decorated', 'values')
+# How many are written at a time.
 BLOCK = 10_000
-
-
-def joined(a, b):
-    """The bytes of the proper pair of two ends given in any order."""
-    if a > b:
-        a, b = b, a
-    if a == inf:
-        a = LARGEST
-    if b == -inf:
-        b = -LARGEST
-    return ENDS.pack(a or -0.0, b or 0.0)
-
-
-class Generator:
-    """Requests of one kind, drawn with one seed."""
-
-    def __init__(self, kind, seed):
-        self.rng = random.Random(seed)
-        self.random = self.rng.random
-        self.bits = self.rng.getrandbits
-        self.decorated = kind == 'decorated'
-        self.recipes = Recipes(self.rng)
-
-    def pick(self, values):
-        return values[int(self.random() * len(values))]
-
-    def nan(self):
-        """A NaN: either of the two plainest, or one with any sign and payload."""
-        way = self.bits(2)
-        if way < 2:
-            return QUIET if way else SIGNALLING
-        sign, payload = self.bits(1) << 63, self.bits(52) or 1
-        return sign | 0x7FF0000000000000 | payload
-
-    def odd_ends(self, ends):
-        """Ends that are rare, or that are refused."""
-        way = int(self.random() * 12)
-        a, b = ENDS.unpack(ends)
-        if way < 3:
-            return EMPTY
-        if way < 4:
-            return ENTIRE
-        if way < 7:
-            return PATTERNS.pack(self.nan(), self.nan())
-        if way == 7:
-            return ENDS.pack(b, a)
-        if way == 8:
-            return ENDS.pack(0.0, abs(b)) if self.bits(1) else ENDS.pack(-abs(a), -0.0)
-        if way == 9:
-            return ENDS.pack(inf, inf) if self.bits(1) else ENDS.pack(-inf, -inf)
-        half = self.nan().to_bytes(8, 'big')
-        return ends[:8] + half if way == 10 else half + ends[8:]
-
-    def decoration(self, ends):
-        """A decoration that suits the ends, now and then one that does not."""
-        chance = self.random()
-        if chance < 0.04:
-            return self.pick(DECORATIONS)
-        if chance < 0.05:
-            return self.bits(8)
-        a, b = ENDS.unpack(ends)
-        if a != a and b != b:
-            return ILL
-        if a == inf and b == -inf:
-            return TRV
-        if -inf < a and b < inf:
-            return COM if chance < 0.6 else self.pick((TRV, DEF, DAC))
-        return self.pick((TRV, DEF, DAC))
-
-    def operand(self, a, b):
-        if self.bits(3) == 0:
-            b = a
-        ends = joined(a, b)
-        if self.random() < 0.09:
-            ends = self.odd_ends(ends)
-        return ends + bytes([self.decoration(ends)]) if self.decorated else ends
-
-    def request(self, operation):
-        a, b, c, d = self.pick(self.recipes.by_operation[operation])()
-        return bytes([operation]) + self.operand(a, b) + self.operand(c, d)
-
-    def spoilt(self, request):
-        """A request with a bit turned, another operation number, or of chance bytes."""
-        way = self.bits(3)
-        if way == 0:
-            return self.pick((0, 18, 19, 255, self.bits(8))).to_bytes(1, 'big') + request[1:]
-        if way == 1:
-            return request[:1] + self.rng.randbytes(len(request) - 1)
-        damaged = bytearray(request)
-        damaged[int(self.random() * len(request))] ^= 1 << self.bits(3)
-        return bytes(damaged)
-
-    def requests(self, count):
-        for index in range(count):
-            request = self.request(index % 17 + 1)
-            yield self.spoilt(request) if self.random() < 0.04 else request
-
-
-# The ends of the exhaustive lists. All seven classes arise from either set.
-BARE_ENDS = sorted(set(both_signs((
-    0.0, TINY, NORMAL, 0.5, nextafter(1.0, 0), 1.0, nextafter(1.0, 2), 3.0,
-    ldexp(1, 53), nextafter(LARGEST, 0), LARGEST, inf))))
-DECORATED_ENDS = sorted(set(both_signs((0.0, TINY, 1.0, nextafter(1.0, 2), LARGEST, inf))))
-# The integer functions take one operand, so more ends can be had.
-WHOLE_ENDS = sorted(set(both_signs(
-    [step / 4 for step in range(13)]
-    + [nextafter(step / 2, way) for step in range(1, 6) for way in (-inf, inf)]
-    + [TINY, NORMAL, ldexp(1, 52) - 0.5, ldexp(1, 52), ldexp(1, 53), LARGEST, inf])))
-
-
-def all_operands(ends, decorated):
-    """All intervals with these ends, with every decoration that suits them."""
-    found = []
-    for a in ends:
-        for b in ends:
-            if a <= b and a != inf and b != -inf:
-                bounded = -inf < a and b < inf
-                for decoration in (TRV, DEF, DAC, COM) if bounded else (TRV, DEF, DAC):
-                    found.append(joined(a, b) + bytes([decoration]))
-    found.append(EMPTY + bytes([TRV]))
-    if decorated:
-        found.append(PATTERNS.pack(QUIET, QUIET) + bytes([ILL]))
-        return found
-    return list(dict.fromkeys(operand[:16] for operand in found))
-
-
-def exhaustive(kind):
-    decorated = kind == 'decorated'
-    pairs_of = all_operands(DECORATED_ENDS if decorated else BARE_ENDS, decorated)
-    singles = all_operands(WHOLE_ENDS, decorated)
-    # The second operand is not read, so it may be anything.
-    unread = b'\xff' * OPERAND[kind]
-    for number in NUMBER.values():
-        operation = bytes([number])
-        if number in ONE_OPERAND:
-            for x in singles:
-                yield operation + x + unread
-        else:
-            for x in pairs_of:
-                for y in pairs_of:
-                    yield operation + x + y
 
 
 def main():
     parser = argparse.ArgumentParser(description='Writes requests to standard output.')
-    parser.add_argument('--kind', choices=OPERAND, required=True)
+    parser.add_argument('--kind', choices=KINDS, required=True)
     parser.add_argument('--seed', type=int, default=1)
     parser.add_argument('--count', type=int, default=100_000)
     parser.add_argument('--exhaustive', action='store_true')
     given = parser.parse_args()
-    if given.exhaustive:
-        requests = exhaustive(given.kind)
+    if given.kind == 'values':
+        made = (record_lists.exhaustive() if given.exhaustive
+                else record_lists.Generator(given.seed).records(given.count))
     else:
-        requests = Generator(given.kind, given.seed).requests(given.count)
-    block = []
-    for request in requests:
-        block.append(request)
-        if len(block) == BLOCK:
-            sys.stdout.buffer.write(b''.join(block))
-            block.clear()
-    sys.stdout.buffer.write(b''.join(block))
+        made = (request_lists.exhaustive(given.kind) if given.exhaustive
+                else request_lists.Generator(given.kind, given.seed).requests(given.count))
+    while block := b''.join(islice(made, BLOCK)):
+        sys.stdout.buffer.write(block)
 
 
 if __name__ == '__main__':

@@ -96,6 +96,21 @@ def write(x):
     return ENDS.pack(x[0] if x[0] else -0.0, x[1] if x[1] else 0.0)
 
 
+def result(operation, *given):
+    """The bytes that an operation answers to accepted operands, of either kind."""
+    decorations = [operand[16] for operand in given if len(operand) == OPERAND['decorated']]
+    is_overlap = operation == NUMBER['overlap']
+    if ILL in decorations:
+        return bytes([NAI_OVERLAP]) if is_overlap else NAI
+    exact_given = [read(operand) for operand in given]
+    if is_overlap:
+        return bytes([exact.overlap(*exact_given)])
+    found = bare_result(operation, *exact_given)
+    if not decorations:
+        return write(found)
+    return write(found) + bytes([decoration_of(operation, exact_given, decorations, found)])
+
+
 def answer(request):
     """The answer to one request, of either kind."""
     kind = 'bare' if len(request) == REQUEST['bare'] else 'decorated'
@@ -103,23 +118,8 @@ def answer(request):
     if number:
         return refused(kind, number, place)
     operation = request[0]
-    given = operands(request)
-    if operation in ONE_OPERAND:
-        given = given[:1]
-    decorations = [operand[16] for operand in given if kind == 'decorated']
-    is_overlap = operation == NUMBER['overlap']
-    if ILL in decorations:
-        body = bytes([NAI_OVERLAP]) if is_overlap else NAI
-    else:
-        given = [read(operand) for operand in given]
-        if is_overlap:
-            body = bytes([exact.overlap(*given)])
-        else:
-            result = bare_result(operation, *given)
-            body = write(result)
-            if kind == 'decorated':
-                body += bytes([decoration_of(operation, given, decorations, result)])
-    return bytes(2) + body.ljust(OPERAND[kind], b'\0')
+    given = operands(request)[:1 if operation in ONE_OPERAND else 2]
+    return bytes(2) + result(operation, *given).ljust(OPERAND[kind], b'\0')
 
 
 def main():

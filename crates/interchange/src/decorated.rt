@@ -38,7 +38,7 @@ pub struct DecBytesAnswer {
 }
 
 // The decoration that a byte says.
-enum ByteDecoration {
+pub enum ByteDecoration {
     Known(Decoration),
     Unknown,
 }
@@ -47,7 +47,7 @@ enum ByteDecoration {
 const DECORATION_AT: usize = 16;
 
 // The decoration of a byte, if it has one.
-fn decoration_of(b: u8) -> ByteDecoration
+pub fn decoration_of(b: u8) -> ByteDecoration
     ensures { λ r. ⌜ SaidBy b r ⌝ }
 {
     match b {

@@ -1,0 +1,242 @@
+// What is written for each kind of answer: number, place, and seventeen bytes, which are zero where nothing is said of them.
+//
+//  Answer                                  | Bytes
+// -----------------------------------------+-----------------------------------------------------------------
+//  bare interval                           | its two ends, as they are
+//  decorated interval                      | its two ends, as they are, and its decoration's byte
+//  end                                     | its eight bytes
+//  truth value, class, state or decoration | one byte: 0 or 1, the class or the state by its place in the order
+//                                          | declared, 16 for overlap of NaI, or the decoration's byte
+//  the interval part that NaI lacks        | zeros, and 255 last
+use crate::values::Operand;
+use crate::values::ends_of;
+use calls::BARE;
+use classify::ClassAnswer;
+use classify::IntervalClass;
+use end_bytes::ByteOrder;
+use end_bytes::read_ends;
+use end_bytes::write_ends;
+use interchange::bare::BytesAnswer;
+use interchange::decorated::DecBytesAnswer;
+use interval::ACCEPTED;
+use interval::Answer;
+use interval::BAD_BYTE;
+use interval::BoolAnswer;
+use interval::DecAnswer;
+use interval::DecInterval;
+use interval::DecorationAnswer;
+use interval::EndAnswer;
+use interval::FIRST;
+use interval::Interval;
+use interval::NO_PLACE;
+use interval::PartAnswer;
+use interval::SECOND;
+use interval::decoration_byte;
+use overlap::DecState;
+use overlap::OverlapAnswer;
+use overlap::dec_state_number;
+
+// The bytes of a reply.
+pub const REPLY: usize = 19;
+
+// Where the number, the place, the ends and the last byte stand in a reply.
+const NUMBER_AT: usize = 0;
+
+const PLACE_AT: usize = 1;
+
+const ENDS_AT: usize = 2;
+
+const LAST_AT: usize = 18;
+
+// Stands last, and is no decoration's byte, where NaI has no interval part.
+const MISSING: u8 = 255;
+
+// Document 01's number for a function number that no function has.
+const UNKNOWN_FUNCTION: u32 = 3;
+
+// How many values a byte has.
+const BASE: u32 = 256;
+
+// What the first of eight bytes weighs.
+const FIRST_BYTE: u64 = 0x0100_0000_0000_0000;
+
+// A reply before it is written: number, place, sixteen bytes as two patterns, and the last byte.
+pub struct Said {
+    pub number: u32,
+    pub place: u32,
+    pub ends: Interval,
+    pub last: u8,
+}
+
+// Two patterns, which need be no interval's ends.
+fn patterns(a: u64, b: u64) -> Interval {
+    Interval { a, b }
+}
+
+pub fn refused(number: u32, place: u32) -> Said {
+    Said {
+        number,
+        place,
+        ends: patterns(0, 0),
+        last: 0,
+    }
+}
+
+pub fn unknown_function() -> Said {
+    refused(UNKNOWN_FUNCTION, NO_PLACE)
+}
+
+// The reply to a call that takes a decoration, unless the operand's byte is no decoration's.
+pub fn if_known(x: Operand, reply: Said) -> Said {
+    if x.known {
+        return reply;
+    }
+    refused(BAD_BYTE, FIRST)
+}
+
+// The same for two operands.
+pub fn if_both_known(x: Operand, y: Operand, reply: Said) -> Said {
+    if !x.known {
+        return refused(BAD_BYTE, FIRST);
+    }
+    if !y.known {
+        return refused(BAD_BYTE, SECOND);
+    }
+    reply
+}
+
+// The ends are written as they are, so that a zero of the wrong sign shows.
+fn accepted(ends: Interval, last: u8) -> Said {
+    Said {
+        number: ACCEPTED,
+        place: NO_PLACE,
+        ends,
+        last,
+    }
+}
+
+fn one_byte(b: u8) -> Said {
+    accepted(patterns((b as u64) * FIRST_BYTE, 0), 0)
+}
+
+pub fn bare_interval(x: Interval) -> Said {
+    accepted(x, 0)
+}
+
+pub fn decorated_interval(x: DecInterval) -> Said {
+    let ends = x.x;
+    let d = x.d;
+    accepted(ends, decoration_byte(d))
+}
+
+pub fn bare(r: Answer) -> Said {
+    match r {
+        Answer::Given(x) => bare_interval(x),
+        Answer::Refused(n, place) => refused(n, place),
+    }
+}
+
+pub fn decorated(r: DecAnswer) -> Said {
+    match r {
+        DecAnswer::Given(x) => decorated_interval(x),
+        DecAnswer::Refused(n, place) => refused(n, place),
+    }
+}
+
+fn flag(b: bool) -> u8 {
+    if b { 1 } else { 0 }
+}
+
+pub fn truth(r: BoolAnswer) -> Said {
+    match r {
+        BoolAnswer::Given(b) => one_byte(flag(b)),
+        BoolAnswer::Refused(n, place) => refused(n, place),
+    }
+}
+
+pub fn end(r: EndAnswer) -> Said {
+    match r {
+        EndAnswer::Given(e) => accepted(patterns(e, 0), 0),
+        EndAnswer::Refused(n, place) => refused(n, place),
+    }
+}
+
+pub fn decoration(r: DecorationAnswer) -> Said {
+    match r {
+        DecorationAnswer::Given(d) => one_byte(decoration_byte(d)),
+        DecorationAnswer::Refused(n, place) => refused(n, place),
+    }
+}
+
+pub fn part(r: PartAnswer) -> Said {
+    match r {
+        PartAnswer::Given(x) => bare_interval(x),
+        PartAnswer::Missing => accepted(patterns(0, 0), MISSING),
+        PartAnswer::Refused(n, place) => refused(n, place),
+    }
+}
+
+fn class_number(c: IntervalClass) -> u8 {
+    match c {
+        IntervalClass::E => 0,
+        IntervalClass::M => 1,
+        IntervalClass::N0 => 2,
+        IntervalClass::N1 => 3,
+        IntervalClass::P0 => 4,
+        IntervalClass::P1 => 5,
+        IntervalClass::Z => 6,
+    }
+}
+
+pub fn class(r: ClassAnswer) -> Said {
+    match r {
+        ClassAnswer::Given(c) => one_byte(class_number(c)),
+        ClassAnswer::Refused(n, place) => refused(n, place),
+    }
+}
+
+pub fn state(r: OverlapAnswer) -> Said {
+    match r {
+        OverlapAnswer::Given(s) => one_byte(dec_state_number(DecState::State(s))),
+        OverlapAnswer::Nai => one_byte(dec_state_number(DecState::Nai)),
+        OverlapAnswer::Refused(n, place) => refused(n, place),
+    }
+}
+
+fn sixteen(bytes: [u8; BARE]) -> Interval {
+    read_ends(&bytes, ByteOrder::Big)
+}
+
+pub fn bare_bytes(r: BytesAnswer) -> Said {
+    let bytes = r.bytes;
+    Said {
+        number: r.number,
+        place: r.place,
+        ends: sixteen(bytes),
+        last: 0,
+    }
+}
+
+pub fn decorated_bytes(r: DecBytesAnswer) -> Said {
+    let bytes = r.bytes;
+    Said {
+        number: r.number,
+        place: r.place,
+        ends: ends_of(bytes),
+        last: bytes[BARE],
+    }
+}
+
+fn low_byte(n: u32) -> u8 {
+    (n % BASE) as u8
+}
+
+pub fn written(s: Said) -> [u8; REPLY] {
+    let ends = s.ends;
+    let mut reply = [0u8; REPLY];
+    reply[NUMBER_AT] = low_byte(s.number);
+    reply[PLACE_AT] = low_byte(s.place);
+    write_ends(&mut reply[ENDS_AT..], ends, ByteOrder::Big);
+    reply[LAST_AT] = s.last;
+    reply
+}

@@ -1,0 +1,41 @@
+// Operands by value, made of a record's bytes and not judged.
+use calls::DECORATED;
+use end_bytes::ByteOrder;
+use end_bytes::read_ends;
+use interchange::decorated::ByteDecoration;
+use interchange::decorated::decoration_of;
+use interval::DecInterval;
+use interval::Decoration;
+use interval::Interval;
+
+// Where the decoration's byte stands in an operand.
+const DECORATION_AT: usize = 16;
+
+// What is passed: a decorated interval, and whether its byte is a decoration's. If it is none, Ill stands in for it.
+pub struct Operand {
+    pub value: DecInterval,
+    pub known: bool,
+}
+
+// The two patterns at the front of an operand, or of an answer.
+pub(crate) fn ends_of(bytes: [u8; DECORATED]) -> Interval {
+    read_ends(&bytes, ByteOrder::Big)
+}
+
+fn with_decoration(x: Interval, d: Decoration) -> DecInterval {
+    DecInterval { x, d }
+}
+
+pub fn operand_of(bytes: [u8; DECORATED]) -> Operand {
+    let ends = ends_of(bytes);
+    match decoration_of(bytes[DECORATION_AT]) {
+        ByteDecoration::Known(d) => Operand {
+            value: with_decoration(ends, d),
+            known: true,
+        },
+        ByteDecoration::Unknown => Operand {
+            value: with_decoration(ends, Decoration::Ill),
+            known: false,
+        },
+    }
+}

@@ -1,0 +1,79 @@
+"""The two forms that are compared: requests, and records of calls by value.
+
+For both: what document 01 refuses and answers, and what the differences ask about.
+"""
+
+import reference
+import values
+from document import (
+    ANSWER, ENDS, ILL, OPERAND, OPERATIONS, REQUEST, operands, proper, refusal)
+
+
+def ill_pair(operand, by_value=False):
+    """Whether an operand is a proper pair with the decoration Ill."""
+    return (len(operand) == OPERAND['decorated'] and operand[16] == ILL
+            and proper(*ENDS.unpack_from(operand), by_value))
+
+
+class Requests:
+    names = OPERATIONS
+    refusal = staticmethod(refusal)
+    answer = staticmethod(reference.answer)
+
+    def __init__(self, kind):
+        self.length = REQUEST[kind]
+        self.answer_length = ANSWER[kind]
+
+    @staticmethod
+    def name(request):
+        return OPERATIONS[request[0] - 1] if 1 <= request[0] <= 17 else None
+
+    @staticmethod
+    def ill_pair_at(request, place):
+        return ill_pair(operands(request)[place - 1])
+
+    @staticmethod
+    def with_nai(request):
+        """The request with NaI in place of each proper pair with Ill."""
+        return request[:1] + b''.join(
+            reference.NAI if ill_pair(operand) else operand for operand in operands(request))
+
+    def decorated_operation(self, request):
+        """The number of the operation on decorated intervals, or 0."""
+        return request[0] if self.length == REQUEST['decorated'] and self.name(request) else 0
+
+
+class Records:
+    names = tuple(function.name for function in values.FUNCTIONS.values())
+    length = values.RECORD
+    answer_length = ANSWER['decorated']
+    refusal = staticmethod(values.refusal)
+    answer = staticmethod(values.answer)
+
+    @staticmethod
+    def name(record):
+        function = values.FUNCTIONS.get(record[0])
+        return function and function.name
+
+    @staticmethod
+    def ill_pair_at(record, place):
+        _, way, operand = values.taken(record)[place - 1]
+        return ill_pair(way.judged(operand), way.by_value)
+
+    @classmethod
+    def with_nai(cls, record):
+        """The record with NaI in place of each proper pair with Ill."""
+        changed = list(operands(record))
+        for place, way, _ in values.taken(record):
+            if cls.ill_pair_at(record, place):
+                changed[place - 1] = way.in_order(reference.NAI)
+        return record[:1] + b''.join(changed)
+
+    @staticmethod
+    def decorated_operation(record):
+        """The number of the operation on decorated intervals, or 0."""
+        function = values.FUNCTIONS.get(record[0])
+        return function.operation if function and values.DECORATED in function.takes else 0
+
+
+FORMS = {'bare': Requests('bare'), 'decorated': Requests('decorated'), 'values': Records()}
