@@ -18,6 +18,12 @@ pub const BARE: usize = 16;
 // The bytes of a decorated interval.
 pub const DECORATED: usize = 17;
 
+// The bytes of a decorated request: an operation number and two operands.
+pub const DECORATED_REQUEST: usize = 1 + 2 * DECORATED;
+
+// The bytes of the bench program's reply to it: number, place, answer.
+pub const REPLY: usize = 2 + DECORATED;
+
 // The place of the decoration's byte.
 const DECORATION_AT: usize = 16;
 

@@ -107,11 +107,11 @@ no-wrong-decorated₂ op f bad all =
 -- Overlap: a wrong version refuses every call, or answers one state always.
 finished : BareOverlap binary64 (pair one two) (only two) (given 10)
 unfolding infinity signBit value magnitude plus minus
-finished = state-tested binary64 (pair one two) (only two) finishedBy 10 tt
+finished = state-tested (pair one two) (only two) finishedBy 10 tt .answered
 
 met : BareOverlap binary64 (pair one two) (pair two three) (given 4)
 unfolding infinity signBit value magnitude plus minus
-met = state-tested binary64 (pair one two) (pair two three) meets 4 tt
+met = state-tested (pair one two) (pair two three) meets 4 tt .answered
 
 pub no-refusing-overlap : (n p : Pair → Pair → ℕ) → ((x y : Pair) → BareOverlap binary64 x y (refused (n x y) (p x y))) → ⊥
 no-refusing-overlap n p all =

@@ -7,6 +7,7 @@ pub mod WrongCalls
 pub mod Examples
 pub mod WrongRequests
 pub mod SecondOperand
+pub mod PartLaws
 pub mod ChunkLaws
 pub mod SmallLaws
 pub mod ReadLaws

@@ -9,8 +9,8 @@ use Rattle.patterns.specs.Format.{binary64}
 use Rattle.meaning.specs.Requests.{zeros, decoratedSize}
 use Rattle.request_laws.proofs.SmallLaws.{decorated-request-small}
 use Rattle.calls.proofs.PlaceLaws.{copied-over}
-use Rattle.decorated_request.proofs.chunk.reply.Statement.{statement}
-use Rattle.decorated_request.proofs.chunk.reply.Tie as tie
+use Rattle.bench_turn.proofs.chunk.reply.Statement.{statement}
+use Rattle.bench_turn.proofs.chunk.reply.Tie as tie
 
 slice-aggregate-request-decorated : tie.Need-slice-aggregate-request-decorated
 slice-aggregate-request-decorated c = search needs

@@ -4,20 +4,15 @@ use mathlib.Core.List.{List, _++_}
 use Prim.Native.Nat.{ℕ, _+_, _*_, _<_, _≤_}
 use native.Mathlib.Omega.{arith}
 use borrow.Author.Count.{below-more}
-use lib.ListN.{length, take, drop, length-drop, take-append-drop}
-use lib.Seq.{length-take-le, take-append-le, drop-append-le, take-at, drop-at, drop-drop}
+use lib.ListN.{length, take, drop, take-append-drop}
+use lib.Seq.{length-take-le, take-at, drop-at, drop-drop}
 use Rattle.request_laws.specs.Chunk.{requestSize, replySize, part, Replied, Chunk}
-use Rattle.decorated_request.proofs.PlaceLaws.{placed}
+use Rattle.request_laws.proofs.PartLaws.{part-front}
+use Rattle.bench_turn.proofs.PlaceLaws.{placed}
 
 -- Before the first request is answered nothing has changed.
 pub chunk-none : (input before : List ℕ) → Chunk 0 input before before
 chunk-none input before = record { each = λ i less. absurd (omega arith); rest = refl }
-
--- A part that lies in the first of two lists.
-part-front : (j : ℕ) (a b : List ℕ) → replySize * j + replySize ≤ length a → part replySize j (a ++ b) ≡ part replySize j a
-part-front j a b fits =
-    ap (take replySize) (drop-append-le (replySize * j) a b (omega arith))
-    ∙ take-append-le replySize (drop (replySize * j) a) b (omega (arith, length-drop (replySize * j) a))
 
 -- What follows one part more.
 drop-part : (i : ℕ) (l : List ℕ) → drop (replySize * (i + 1)) l ≡ drop replySize (drop (replySize * i) l)
@@ -35,8 +30,8 @@ module _ (i : ℕ) (l d : List ℕ) (sized : length d ≡ replySize) (fits : rep
   earlier-part : (j : ℕ) → j < i → part replySize j (placed l d (replySize * i)) ≡ part replySize j l
   earlier-part j less =
       let within : replySize * j + replySize ≤ length (take (replySize * i) l) = omega (arith, front-long) in
-      part-front j (take (replySize * i) l) (d ++ drop (replySize * i + length d) l) within
-      ∙ sym (part-front j (take (replySize * i) l) (drop (replySize * i) l) within)
+      part-front replySize j (take (replySize * i) l) (d ++ drop (replySize * i + length d) l) within
+      ∙ sym (part-front replySize j (take (replySize * i) l) (drop (replySize * i) l) within)
       ∙ ap (part replySize j) (take-append-drop (replySize * i) l)
 
   placed-part : part replySize i (placed l d (replySize * i)) ≡ d

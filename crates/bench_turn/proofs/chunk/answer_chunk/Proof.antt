@@ -5,10 +5,10 @@ use native.Mathlib.Omega.{arith}
 use borrow.Author.Needs.{needs}
 use lib.ListN.{length, take, drop}
 use Rattle.request_laws.specs.Chunk.{requestSize, replySize, part, Replied, Chunk}
-use Rattle.decorated_request.proofs.PlaceLaws.{copied-at}
-use Rattle.decorated_request.proofs.ChunkLaws.{chunk-none, chunk-more}
-use Rattle.decorated_request.proofs.chunk.answer_chunk.Statement.{statement}
-use Rattle.decorated_request.proofs.chunk.answer_chunk.Tie as tie
+use Rattle.bench_turn.proofs.PlaceLaws.{copied-at}
+use Rattle.bench_turn.proofs.ChunkLaws.{chunk-none, chunk-more}
+use Rattle.bench_turn.proofs.chunk.answer_chunk.Statement.{statement}
+use Rattle.bench_turn.proofs.chunk.answer_chunk.Tie as tie
 
 abbrev Inv-loop : tie.InvT-loop
 Inv-loop requests count replies₀ i₀ replies i = (i ≤ count) × (length replies ≡ length replies₀) × Chunk i requests replies₀ replies

@@ -1,12 +1,10 @@
 // Chunks of decorated requests, which lie one behind the other: nineteen bytes for each.
 ghost use Rattle.request_laws.specs.Chunk.{Chunk, Replied};
-ghost use Rattle.decorated_request.specs.Room.{Roomy};
-use crate::REQUEST;
-use crate::request_decorated;
+ghost use Rattle.bench_turn.specs.Room.{Roomy};
 use calls::DECORATED;
-
-// The bytes of a reply: number, place, answer.
-pub const REPLY: usize = 19;
+use calls::DECORATED_REQUEST;
+use calls::REPLY;
+use decorated_request::request_decorated;
 
 // Where the number stands in a reply.
 const NUMBER_AT: usize = 0;
@@ -37,8 +35,8 @@ pub fn answer_chunk(requests: &[u8], count: usize, replies: &mut [u8])
 {
     let mut i = 0;
     while i < count {
-        let from = REQUEST * i;
-        let from_end = from + REQUEST;
+        let from = DECORATED_REQUEST * i;
+        let from_end = from + DECORATED_REQUEST;
         let answer = reply(&requests[from..from_end]);
         let to = REPLY * i;
         bytes::copy(&answer, &mut replies[to..]);
