@@ -6,6 +6,7 @@ pub mod TidyLaws
 pub mod Shapes
 pub mod DecorationLaws
 pub mod StatementLaws
+pub mod PartLaws
 pub mod Codes
 pub mod Once
 pub mod OneAnswer

@@ -8,7 +8,7 @@ use Rattle.meaning.specs.Decorations.{Decoration}
 use Rattle.meaning.specs.Statement.{DecPair}
 use Rattle.states.proofs.ReadingLaws.{tidied-once}
 use Rattle.flags.specs.Answers.{Answers, affirmed, denied}
-use Rattle.interval.specs.Values.{TidiedDec, tidiedNaI, tidiedInterval, SetDec, setNaI, setInterval, LowerOf, UpperOf, Part, PartOf, isPart, isMissing}
+use Rattle.interval.specs.Values.{TidiedDec, tidiedNaI, tidiedInterval, SetDec, setNaI, setInterval, LowerOf, UpperOf, Part, PartOf, isPart, isMissing, DecEndOf, nanEnd, partEnd}
 
 pub answers-once : (P : Type 0) (b c : Bool) → Answers P b → Answers P c → b ≡ c
 answers-once P b c (affirmed p) (affirmed q) = refl
@@ -43,3 +43,10 @@ part-once F x z w (isMissing n) (isMissing m) = refl
 part-once F x z w (isMissing n) (isPart m t) = absurd (m n)
 part-once F x z w (isPart m t) (isMissing n) = absurd (m n)
 part-once F x z w (isPart {p} n s) (isPart {p = q} m t) = ap Part.part (tidied-once F (x .pair) p q s t)
+
+pub decEnd-once : (F : Format) (EndOf : Pair → ℕ → Type 0) → ((x : Pair) (r s : ℕ) → EndOf x r → EndOf x s → r ≡ s)
+    → (x : DecPair) (r s : ℕ) → DecEndOf F EndOf x r → DecEndOf F EndOf x s → r ≡ s
+decEnd-once F EndOf once x r s (nanEnd n) (nanEnd m) = refl
+decEnd-once F EndOf once x r s (nanEnd n) (partEnd m e) = absurd (m n)
+decEnd-once F EndOf once x r s (partEnd m e) (nanEnd n) = absurd (m n)
+decEnd-once F EndOf once x r s (partEnd n d) (partEnd m e) = once (x .pair) r s d e

@@ -9,11 +9,11 @@ use Rattle.meaning.specs.Bytes.{Tidied}
 use Rattle.meaning.proofs.Unique.{one-answer₁, judged-bare-once}
 use Rattle.flags.specs.Answers.{Answers}
 use Rattle.interval.specs.Conversions.{outcome, decOutcome, boolOutcome, endOutcome, decorationOutcome, partOutcome}
-use Rattle.interval.specs.Values.{TidiedDec, SetDec, LowerOf, UpperOf, PartOf, Common}
+use Rattle.interval.specs.Values.{TidiedDec, SetDec, LowerOf, UpperOf, PartOf, Common, DecEndOf, OfPart}
 use Rattle.interval.proofs.Codes.{answer-known, decAnswer-known, boolAnswer-known, endAnswer-known, decorationAnswer-known, partAnswer-known}
 use Rattle.states.proofs.VerdictLaws.{judged-decorated-once}
 use Rattle.states.proofs.ReadingLaws.{tidied-once}
-use Rattle.interval.proofs.Once.{answers-once, lower-once, upper-once, tidiedDec-once, setDec-once, part-once}
+use Rattle.interval.proofs.Once.{answers-once, lower-once, upper-once, tidiedDec-once, setDec-once, part-once, decEnd-once}
 
 -- One answer satisfies a statement whose answers have the outcomes f.
 abbrev Once : {A B R : Type 0} (f : R → Outcome B) (Judged : A → Verdict → Type 0) (Right : A → B → Type 0) → Type 0
@@ -45,15 +45,18 @@ module _ (F : Format) where
   pub is-singleton-once : Once boolOutcome (JudgedBare F) (λ x. Answers (Point (setOf F x)))
   is-singleton-once = asked-once Point
 
-  pub dec-try-from-once : Once decOutcome (JudgedDecorated F) (TidiedDec F)
-  dec-try-from-once x r s a b = decAnswer-known (one-answer₁ (judged-decorated-once F x) (tidiedDec-once F x) a b)
+  pub try-from-parts-once : Once decOutcome (JudgedDecorated F) (TidiedDec F)
+  try-from-parts-once x r s a b = decAnswer-known (one-answer₁ (judged-decorated-once F x) (tidiedDec-once F x) a b)
 
-  -- `new` is `set_dec` at Com.
+  -- `new` is `set_dec` at Com, and `try_from` is `new` of the interval with the ends.
   pub set-dec-once : (d : Decoration) → Once decOutcome (JudgedBare F) (SetDec F d)
   set-dec-once d x r s a b = decAnswer-known (one-answer₁ (judged-bare-once F x) (setDec-once F d x) a b)
 
   pub new-once : Once decOutcome (JudgedBare F) (SetDec F Com)
   new-once = set-dec-once Com
+
+  pub dec-try-from-once : Once decOutcome (JudgedBare F) (SetDec F Com)
+  dec-try-from-once = new-once
 
   pub interval-once : Once partOutcome (JudgedDecorated F) (PartOf F)
   interval-once x r s a b = partAnswer-known (one-answer₁ (judged-decorated-once F x) (part-once F x) a b)
@@ -63,3 +66,25 @@ module _ (F : Format) where
 
   pub is-nai-once : Once boolOutcome (JudgedDecorated F) (λ x. Answers (NaNs F (x .pair)))
   is-nai-once x r s a b = boolAnswer-known (one-answer₁ (judged-decorated-once F x) (answers-once (NaNs F (x .pair))) a b)
+
+  pub dec-inf-once : Once endOutcome (JudgedDecorated F) (DecEndOf F (LowerOf F))
+  dec-inf-once x r s a b = endAnswer-known (one-answer₁ (judged-decorated-once F x) (decEnd-once F (LowerOf F) (lower-once F) x) a b)
+
+  pub dec-sup-once : Once endOutcome (JudgedDecorated F) (DecEndOf F (UpperOf F))
+  dec-sup-once x r s a b = endAnswer-known (one-answer₁ (judged-decorated-once F x) (decEnd-once F (UpperOf F) (upper-once F) x) a b)
+
+  -- A question on the set of the interval part.
+  pub dec-asked-once : (P : Set → Type 0) → Once boolOutcome (JudgedDecorated F) (λ x. Answers (OfPart F P x))
+  dec-asked-once P x r s a b = boolAnswer-known (one-answer₁ (judged-decorated-once F x) (answers-once (OfPart F P x)) a b)
+
+  pub dec-is-empty-once : Once boolOutcome (JudgedDecorated F) (λ x. Answers (OfPart F (λ (Z : Set). Z ≡ empty) x))
+  dec-is-empty-once = dec-asked-once (λ (Z : Set). Z ≡ empty)
+
+  pub dec-is-entire-once : Once boolOutcome (JudgedDecorated F) (λ x. Answers (OfPart F (λ (Z : Set). Z ≡ span unbounded unbounded) x))
+  dec-is-entire-once = dec-asked-once (λ (Z : Set). Z ≡ span unbounded unbounded)
+
+  pub dec-is-common-interval-once : Once boolOutcome (JudgedDecorated F) (λ x. Answers (OfPart F Common x))
+  dec-is-common-interval-once = dec-asked-once Common
+
+  pub dec-is-singleton-once : Once boolOutcome (JudgedDecorated F) (λ x. Answers (OfPart F Point x))
+  dec-is-singleton-once = dec-asked-once Point

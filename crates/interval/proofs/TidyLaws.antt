@@ -18,6 +18,7 @@ use Rattle.meaning.specs.Decorations.{Decoration}
 use Rattle.meaning.specs.Statement.{DecPair, Agrees}
 use Rattle.meaning.specs.Bytes.{Tidied}
 use Rattle.meaning.proofs.PairLaws.{end-finite, set-proper, set-empty}
+use Rattle.states.proofs.ReadingLaws.{tidied-once}
 use Rattle.interval.specs.Tidy.{tidyLower, tidyUpper}
 use Rattle.interval.proofs.AgreeLaws.{agrees-proper, agrees-empty}
 
@@ -129,6 +130,17 @@ module _ (F : Format) where
           upperZero = by-upper (λ (n : ℕ). n ≡ signBit F → ⊥) (p .upper) (λ e z. omega (arith, sign-positive)) (λ n. n);
         };
         same = same-of (tidy-set p h);
+      }
+
+  pub tidied-set : {p q : Pair} → Bare F p → Tidied F p q → setOf F p ≡ setOf F q
+  unfolding tidyPair
+  tidied-set {p} {q} b t = tidy-set p b ∙ ap (setOf F) (tidied-once F p (tidyPair p) q (tidied p b) t)
+
+  pub tidied-trans : {p q r : Pair} → Tidied F p q → Tidied F q r → Tidied F p r
+  tidied-trans s t =
+      record {
+        canonical = t .canonical;
+        same = (λ x m. t .same .0 x (s .same .0 x m), λ x m. s .same .1 x (t .same .1 x m));
       }
 
   -- The decoration still goes with the interval.

@@ -1,7 +1,7 @@
 -- The right answers of the functions that make intervals and take them apart.
 use mathlib.Core.Path.{_≡_}
 use Prim.Native.Nat.{ℕ}
-use Rattle.patterns.specs.Format.{Format}
+use Rattle.patterns.specs.Format.{Format, quietNaN}
 use Rattle.meaning.specs.Fraction.{Fraction}
 use Rattle.meaning.specs.Sets.{at, Set, span}
 use Rattle.meaning.specs.Pairs.{Pair, NaNs, setOf}
@@ -44,3 +44,13 @@ pub data PartOf (F : Format) (x : DecPair) : Part → Type 0 where
 -- Nonempty and bounded.
 pub data Common : Set → Type 0 where
   common : {a b : Fraction} → Common (span (at a) (at b))
+
+-- An end of a decorated interval as the bytes have it. The crate: "A NaN is returned if `self` is NaI."
+pub data DecEndOf (F : Format) (EndOf : Pair → ℕ → Type 0) (x : DecPair) : ℕ → Type 0 where
+  nanEnd : NaNs F (x .pair) → DecEndOf F EndOf x (quietNaN F)
+  partEnd : {r : ℕ} → (NaNs F (x .pair) → ⊥) → EndOf (x .pair) r → DecEndOf F EndOf x r
+
+-- What is asked of the interval part. The crate: "`false` is returned if `self` is NaI."
+pub record OfPart (F : Format) (P : Set → Type 0) (x : DecPair) : Type 0 where
+  pub part : NaNs F (x .pair) → ⊥
+  pub holds : P (setOf F (x .pair))

@@ -7,6 +7,7 @@ ghost use Rattle.meaning.specs.Statement.{Answered₁, JudgedBare, JudgedDecora
 ghost use Rattle.flags.specs.Answers.{Answers};
 ghost use Rattle.interval.specs.Conversions.{pairOf, decorationOf, decPairOf, decOutcome, boolOutcome, decorationOutcome, partOutcome};
 ghost use Rattle.interval.specs.Values.{TidiedDec, SetDec, PartOf};
+use crate::answers::Answer;
 use crate::answers::BoolAnswer;
 use crate::answers::DecAnswer;
 use crate::answers::DecorationAnswer;
@@ -24,8 +25,18 @@ use crate::zeros::tidy;
 use crate::zeros::tidy_dec;
 
 impl DecInterval {
+    // The interval [a, b], or EMPTY from EMPTY's ends, with the highest decoration that goes with it.
+    pub fn try_from(a: u64, b: u64) -> DecAnswer
+        ensures { λ r. ⌜ Answered₁ (JudgedBare binary64) (SetDec binary64 meant.Com) (record { lower = a; upper = b }) (decOutcome r) ⌝ }
+    {
+        match Interval::try_from(a, b) {
+            Answer::Given(x) => DecInterval::new(x),
+            Answer::Refused(n, p) => DecAnswer::Refused(n, p),
+        }
+    }
+
     // The interval [a, b] with a decoration, or EMPTY or NaI from their ends.
-    pub fn try_from(a: u64, b: u64, d: Decoration) -> DecAnswer
+    pub fn try_from_parts(a: u64, b: u64, d: Decoration) -> DecAnswer
         ensures { λ r. ⌜ Answered₁ (JudgedDecorated binary64) (TidiedDec binary64) (record { pair = record { lower = a; upper = b }; decoration = decorationOf d }) (decOutcome r) ⌝ }
     {
         let ends = Interval { a, b };

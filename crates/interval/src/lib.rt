@@ -4,6 +4,7 @@ mod bare;
 mod decorated;
 mod decorations;
 mod order;
+mod parts;
 mod sets;
 mod types;
 mod validity;

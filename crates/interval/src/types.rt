@@ -50,6 +50,11 @@ impl Interval {
 }
 
 impl DecInterval {
+    pub const EMPTY: DecInterval = DecInterval {
+        x: Interval::EMPTY,
+        d: Decoration::Trv,
+    };
+
     pub const NAI: DecInterval = DecInterval {
         x: Interval {
             a: QUIET_NAN,

@@ -1,7 +1,24 @@
 //! Proved interval arithmetic on interchange bytes: the six calls of `include/muenglavot.h` in safe Rust.
 //!
 //! An operand's bytes, the operation numbers and the numbers of a refusal are described in that header.
-//! Link the archive that `rt staticlib host` writes, as `-l static=host -L DIR`.
+//!
+//! One step comes before `cargo test --offline` and `cargo build`: `rt staticlib host` in the repository writes the archive
+//! that build.rs links. Where it lies elsewhere, MUENGLAVOT_ARCHIVE_DIR names the folder that has libhost.a.
+//!
+//! ```
+//! // 5 is the quotient: [1, 1] by [3, 3], both with Com, which is 16.
+//! let mut request = vec![5];
+//! for end in [1.0f64, 3.0] {
+//!     request.extend([end.to_be_bytes(), end.to_be_bytes()].concat());
+//!     request.push(16);
+//! }
+//! let mut answer = [0; muenglavot::DECORATED];
+//! muenglavot::request_decorated(&request, &mut answer)?;
+//! assert_eq!(answer[..8], 0x3FD5555555555555u64.to_be_bytes());
+//! assert_eq!(answer[8..16], 0x3FD5555555555556u64.to_be_bytes());
+//! assert_eq!(answer[16], 16);
+//! # Ok::<(), muenglavot::Refusal>(())
+//! ```
 
 use std::fmt;
 

@@ -4,40 +4,17 @@ use muenglavot::*;
 
 type Call = fn(&[u8], &mut [u8]) -> Result<(), Refusal>;
 
-#[derive(Default)]
-struct Tally {
-    passed: u32,
-    failed: u32,
-}
+const INF: f64 = f64::INFINITY;
+const NAN: f64 = f64::NAN;
+const ILL: u8 = 0;
+const TRV: u8 = 4;
+const COM: u8 = 16;
+const NO_DECORATION: u8 = 5;
 
-impl Tally {
-    /// Runs a call on an output that holds a pattern, and compares the result and the whole output.
-    fn run(&mut self, what: &str, call: Call, input: &[u8], out_len: usize, wanted: Result<&[u8], (u8, u8)>) {
-        let before: Vec<u8> = (0..out_len).map(|i| (i * 91 + 7) as u8).collect();
-        let mut output = before.clone();
-        let got = call(input, &mut output).map_err(|r| (r.number, r.place));
-        let after = wanted.map_or(before.as_slice(), |bytes| bytes);
-        if got == wanted.map(|_| ()) && output == after {
-            self.passed += 1;
-        } else {
-            self.failed += 1;
-            println!("wrong: {what}, {out_len} bytes out: {got:?}");
-        }
-    }
-
-    /// Lengths 0 to 64 and a few large ones on both sides: 1 before 2, and nothing is written.
-    fn lengths(&mut self, what: &str, call: Call, good: &[u8], out_len: usize) {
-        for len in (0..65).chain([127, 256, 1000, 65536]) {
-            if len != good.len() {
-                self.run(what, call, &vec![1; len], out_len, Err((1, 0)));
-                self.run(what, call, &vec![1; len], 3, Err((1, 0)));
-            }
-            if len != out_len {
-                self.run(what, call, good, len, Err((2, 0)));
-            }
-        }
-    }
-}
+const NEG: u8 = 1;
+const ADD: u8 = 2;
+const DIV: u8 = 5;
+const OVERLAP: u8 = 17;
 
 fn interval(lower: f64, upper: f64) -> Vec<u8> {
     [lower.to_be_bytes(), upper.to_be_bytes()].concat()
@@ -51,6 +28,7 @@ fn request(operation: u8, first: &[u8], second: &[u8]) -> Vec<u8> {
     [&[operation], first, second].concat()
 }
 
+/// The same interval in the other byte order.
 fn turned(bytes: &[u8]) -> Vec<u8> {
     let mut out = bytes.to_vec();
     out[..8].reverse();
@@ -58,59 +36,152 @@ fn turned(bytes: &[u8]) -> Vec<u8> {
     out
 }
 
-fn requests(tally: &mut Tally) {
-    let inf = f64::INFINITY;
-    let (one_two, three_four) = (interval(1.0, 2.0), interval(3.0, 4.0));
-    let sum = request(2, &one_two, &three_four);
-    tally.run("bare sum", request_bare, &sum, BARE, Ok(&interval(4.0, 6.0)));
-    tally.lengths("bare lengths", request_bare, &sum, BARE);
-    let bad_second = request(2, &one_two, &interval(inf, inf));
-    tally.run("bare second", request_bare, &bad_second, BARE, Err((5, 2)));
-    let negated = request(1, &one_two, &interval(inf, inf));
-    tally.run("bare neg", request_bare, &negated, BARE, Ok(&interval(-2.0, -1.0)));
-    for operation in (0..=255).filter(|n| !(1..=17).contains(n)) {
-        let unknown = request(operation, &one_two, &three_four);
-        tally.run("operation number", request_bare, &unknown, BARE, Err((3, 0)));
-    }
+/// Bytes in hex, of a long list the first ones only.
+fn shown(bytes: &[u8]) -> String {
+    bytes.iter().take(40).map(|byte| format!("{byte:02X}")).collect()
+}
 
-    let com = decorated(1.0, 1.0, 16);
-    let quotient = request(5, &com, &decorated(3.0, 3.0, 16));
-    let third = [0x3FD5555555555555u64.to_be_bytes(), 0x3FD5555555555556u64.to_be_bytes()].concat();
-    tally.run("decorated quotient", request_decorated, &quotient, DECORATED, Ok(&[third, vec![16]].concat()));
-    tally.lengths("decorated lengths", request_decorated, &quotient, DECORATED);
-    for (what, operand, number) in [
-        ("decoration byte", decorated(1.0, 2.0, 5), 4),
-        ("4 before 5", decorated(2.0, 1.0, 5), 4),
-        ("order", decorated(2.0, 1.0, 16), 5),
-        ("Ill", decorated(1.0, 2.0, 0), 6),
-        ("Com", decorated(1.0, inf, 16), 6),
-        ("EMPTY", decorated(inf, -inf, 16), 6),
+/// Makes a call on an output that holds a pattern, and holds the result and the whole output to what is wanted: the bytes
+/// of the answer, or a refusal's number and place with the output as it was.
+fn expect(what: &str, call: Call, input: &[u8], out_len: usize, wanted: Result<&[u8], (u8, u8)>) {
+    let before: Vec<u8> = (0..out_len).map(|i| (i * 91 + 7) as u8).collect();
+    let mut output = before.clone();
+    let got = call(input, &mut output).map_err(|refusal| (refusal.number, refusal.place));
+    let asked = || format!("{what}, {} bytes in and {out_len} out, input {}", input.len(), shown(input));
+    assert_eq!(got, wanted.map(|_| ()), "the number and the place differ: {}", asked());
+    let after = wanted.map_or(before.as_slice(), |bytes| bytes);
+    if let Some(at) = (0..out_len).find(|&i| output[i] != after[i]) {
+        panic!("byte {at} of the output differs: {}, output {}, wanted {}", asked(), shown(&output), shown(after));
+    }
+}
+
+/// Lengths 0 to 64 and a few large ones on both sides: 1 before 2, and nothing is written.
+fn expect_lengths_refused(what: &str, call: Call, good: &[u8], out_len: usize) {
+    for len in (0..65).chain([127, 256, 1000, 65536]) {
+        if len != good.len() {
+            expect(what, call, &vec![1; len], out_len, Err((1, 0)));
+            expect(what, call, &vec![1; len], 3, Err((1, 0)));
+        }
+        if len != out_len {
+            expect(what, call, good, len, Err((2, 0)));
+        }
+    }
+}
+
+/// Operands that are refused in a decorated request, with the number that they get.
+fn bad_operands() -> Vec<(&'static str, Vec<u8>, u8)> {
+    vec![
+        ("a byte that is no decoration's", decorated(1.0, 2.0, NO_DECORATION), 4),
+        ("4 before 5", decorated(2.0, 1.0, NO_DECORATION), 4),
+        ("ends out of order", decorated(2.0, 1.0, COM), 5),
+        ("a zero of the wrong sign", decorated(0.0, 1.0, COM), 5),
+        ("one NaN", decorated(NAN, 1.0, TRV), 5),
+        ("Ill on an interval", decorated(1.0, 2.0, ILL), 6),
+        ("Com without a bound", decorated(1.0, INF, COM), 6),
+        ("EMPTY without Trv", decorated(INF, -INF, COM), 6),
+        ("two NaNs without Ill", decorated(NAN, NAN, TRV), 6),
+    ]
+}
+
+#[test]
+fn bare_sum() {
+    let sum = request(ADD, &interval(1.0, 2.0), &interval(3.0, 4.0));
+    expect("bare sum", request_bare, &sum, BARE, Ok(&interval(4.0, 6.0)));
+}
+
+#[test]
+fn bare_negation_reads_no_second_operand() {
+    let negated = request(NEG, &interval(1.0, 2.0), &interval(INF, INF));
+    expect("bare negation", request_bare, &negated, BARE, Ok(&interval(-2.0, -1.0)));
+}
+
+#[test]
+fn bare_overlap_answers_a_state_and_zero_bytes() {
+    let overlap = request(OVERLAP, &interval(1.0, 2.0), &interval(2.0, 3.0));
+    let mut meets = [0; BARE];
+    meets[0] = 4;
+    expect("bare overlap", request_bare, &overlap, BARE, Ok(&meets));
+}
+
+#[test]
+fn bare_operands_are_refused_with_their_place() {
+    let good = interval(1.0, 2.0);
+    for (what, bad) in [
+        ("ends out of order", interval(2.0, 1.0)),
+        ("a zero of the wrong sign", interval(0.0, 1.0)),
+        ("both ends +inf", interval(INF, INF)),
     ] {
-        let first = request(2, &operand, &com);
-        tally.run(what, request_decorated, &first, DECORATED, Err((number, 1)));
-        let second = request(2, &com, &operand);
-        tally.run(what, request_decorated, &second, DECORATED, Err((number, 2)));
+        expect(what, request_bare, &request(ADD, &bad, &good), BARE, Err((5, 1)));
+        expect(what, request_bare, &request(ADD, &good, &bad), BARE, Err((5, 2)));
     }
 }
 
-fn codecs(tally: &mut Tally) {
-    let big = decorated(-0.0, 2.5, 16);
-    let little = turned(&big);
-    tally.run("bare to little", bare_be_to_le, &big[..BARE], BARE, Ok(&little[..BARE]));
-    tally.run("bare to big", bare_le_to_be, &little[..BARE], BARE, Ok(&big[..BARE]));
-    tally.run("decorated to little", decorated_be_to_le, &big, DECORATED, Ok(&little));
-    tally.run("decorated to big", decorated_le_to_be, &little, DECORATED, Ok(&big));
-    tally.lengths("codec lengths", bare_be_to_le, &big[..BARE], BARE);
-    tally.lengths("codec lengths", decorated_le_to_be, &little, DECORATED);
-    tally.run("codec order", bare_be_to_le, &interval(3.0, 2.0), BARE, Err((5, 1)));
-    tally.run("codec byte", decorated_be_to_le, &decorated(1.0, 2.0, 9), DECORATED, Err((4, 1)));
-    tally.run("codec Ill", decorated_be_to_le, &decorated(1.0, 2.0, 0), DECORATED, Err((6, 1)));
+#[test]
+fn bare_request_lengths_are_refused() {
+    let sum = request(ADD, &interval(1.0, 2.0), &interval(3.0, 4.0));
+    expect_lengths_refused("bare request", request_bare, &sum, BARE);
 }
 
-fn main() {
-    let mut tally = Tally::default();
-    requests(&mut tally);
-    codecs(&mut tally);
-    println!("{} passed, {} failed", tally.passed, tally.failed);
-    std::process::exit((tally.failed != 0) as i32);
+#[test]
+fn operation_numbers_that_are_none_are_refused() {
+    for operation in (0..=255).filter(|n| !(1..=17).contains(n)) {
+        let bare = request(operation, &interval(2.0, 1.0), &interval(3.0, 4.0));
+        expect("bare operation number", request_bare, &bare, BARE, Err((3, 0)));
+        let both = request(operation, &decorated(2.0, 1.0, COM), &decorated(3.0, 4.0, COM));
+        expect("decorated operation number", request_decorated, &both, DECORATED, Err((3, 0)));
+    }
+}
+
+#[test]
+fn decorated_quotient_is_rounded_outward() {
+    let quotient = request(DIV, &decorated(1.0, 1.0, COM), &decorated(3.0, 3.0, COM));
+    let third = [0x3FD5555555555555u64.to_be_bytes(), 0x3FD5555555555556u64.to_be_bytes()].concat();
+    expect("decorated quotient", request_decorated, &quotient, DECORATED, Ok(&[third, vec![COM]].concat()));
+}
+
+#[test]
+fn decorated_operands_are_refused_with_their_place() {
+    let good = decorated(1.0, 1.0, COM);
+    for (what, bad, number) in bad_operands() {
+        expect(what, request_decorated, &request(ADD, &bad, &good), DECORATED, Err((number, 1)));
+        expect(what, request_decorated, &request(ADD, &good, &bad), DECORATED, Err((number, 2)));
+        expect(what, request_decorated, &request(ADD, &bad, &bad), DECORATED, Err((number, 1)));
+    }
+}
+
+#[test]
+fn decorated_request_lengths_are_refused() {
+    let quotient = request(DIV, &decorated(1.0, 1.0, COM), &decorated(3.0, 3.0, COM));
+    expect_lengths_refused("decorated request", request_decorated, &quotient, DECORATED);
+}
+
+#[test]
+fn codecs_turn_the_byte_order() {
+    let big = decorated(-0.0, 2.5, COM);
+    let little = turned(&big);
+    expect("bare to little", bare_be_to_le, &big[..BARE], BARE, Ok(&little[..BARE]));
+    expect("bare to big", bare_le_to_be, &little[..BARE], BARE, Ok(&big[..BARE]));
+    expect("decorated to little", decorated_be_to_le, &big, DECORATED, Ok(&little));
+    expect("decorated to big", decorated_le_to_be, &little, DECORATED, Ok(&big));
+}
+
+#[test]
+fn codecs_refuse_at_place_one() {
+    let disordered = interval(3.0, 2.0);
+    expect("bare to little", bare_be_to_le, &disordered, BARE, Err((5, 1)));
+    expect("bare to big", bare_le_to_be, &turned(&disordered), BARE, Err((5, 1)));
+    for (what, bad, number) in bad_operands() {
+        expect(what, decorated_be_to_le, &bad, DECORATED, Err((number, 1)));
+        expect(what, decorated_le_to_be, &turned(&bad), DECORATED, Err((number, 1)));
+    }
+}
+
+#[test]
+fn codec_lengths_are_refused() {
+    let big = decorated(-0.0, 2.5, COM);
+    let little = turned(&big);
+    expect_lengths_refused("bare to little", bare_be_to_le, &big[..BARE], BARE);
+    expect_lengths_refused("bare to big", bare_le_to_be, &little[..BARE], BARE);
+    expect_lengths_refused("decorated to little", decorated_be_to_le, &big, DECORATED);
+    expect_lengths_refused("decorated to big", decorated_le_to_be, &little, DECORATED);
 }
