@@ -40,7 +40,7 @@ abbrev pub classBy : Set → Class
 classBy empty = classE
 classBy (span a b) = classBySigns (lowerSign a) (upperSign b)
 
--- "N* | a < 0 ∧ b ≤ 0" and "P* | a ≥ 0 ∧ 0 < b" of the crate's comments: N0 and N1 are N, P0 and P1 are P.
+-- "N* | a < 0 ∧ b ≤ 0" and "P* | 0 ≤ a ∧ 0 < b" of the comment over the classes: N0 and N1 are N, P0 and P1 are P.
 pub data Kind : Type 0 where
   kindM kindN kindP kindZ : Kind
 
