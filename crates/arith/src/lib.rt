@@ -5,16 +5,21 @@ ghost use Rattle.meaning.specs.Points.{neg, add, sub, mul, div};
 ghost use Rattle.meaning.specs.Results.{Result₁, Result₂, point};
 ghost use Rattle.meaning.specs.Statement.{HullOf};
 ghost use Rattle.interval.specs.Conversions.{pairOf};
-use arith_ends::is_zero;
-use arith_ends::product_upper;
-use arith_ends::quotient_upper;
+use arith_ends::product_at;
+use arith_ends::quotient_at;
 use arith_ends::sum_end;
+use classify::classify;
 use interval::Interval;
 use interval::tidy;
+use kinds::is_zero;
+use kinds::kind_of;
+use kinds::mirrored_kind;
 use operands::either_empty;
 use operands::mirrored;
 use operands::opposite;
 use operands::outward;
+use tables::product_corner;
+use tables::quotient_corner;
 
 // -[a, b] = [-b, -a]
 pub fn neg_of(x: Interval) -> Interval
@@ -54,7 +59,12 @@ pub fn mul_of(x: Interval, y: Interval) -> Interval
     if either_empty(x, y) {
         return Interval::EMPTY;
     }
-    outward(product_upper(mirrored(x), y), product_upper(x, y))
+    let m = kind_of(classify(x));
+    let n = kind_of(classify(y));
+    outward(
+        product_at(product_corner(mirrored_kind(m), n), mirrored(x), y),
+        product_at(product_corner(m, n), x, y),
+    )
 }
 
 // The quotient by the members of y other than 0. Where there is none it is EMPTY: [-1, 1] / [0, 0].
@@ -65,8 +75,13 @@ pub fn div_of(x: Interval, y: Interval) -> Interval
     if either_empty(x, y) {
         return Interval::EMPTY;
     }
-    if is_zero(y) {
+    let k = classify(y);
+    if is_zero(k) {
         return Interval::EMPTY;
     }
-    outward(quotient_upper(mirrored(x), y), quotient_upper(x, y))
+    let m = kind_of(classify(x));
+    outward(
+        quotient_at(quotient_corner(mirrored_kind(m), k), mirrored(x), y),
+        quotient_at(quotient_corner(m, k), x, y),
+    )
 }

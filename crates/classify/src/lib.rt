@@ -25,8 +25,8 @@ use interval::key;
 //    P1 | 0 < a
 //     Z | a = b = 0
 //    N* | a < 0 ∧ b ≤ 0
-//    P* | a = 0 ∧ 0 ≤ b
-// * These codes are used only in comments.
+//    P* | 0 ≤ a ∧ 0 < b
+// * These codes are used only in comments. (The crate's own comment has "a = 0 ∧ 0 ≤ b" for P*; its tables mean P0 and P1.)
 pub enum IntervalClass {
     E,
     M,

@@ -1,11 +1,10 @@
--- Which classes of divisors hold 0.
-use mathlib.Core.Path.{_≡_, sym, _∙_, subst}
+-- Which classes of divisors hold 0, and so what each allows.
 use Rattle.meaning.specs.Fraction.{whole}
 use Rattle.meaning.specs.Sets.{End, Set, Over, over, overNone, Under, under, underNone}
-use Rattle.meaning.specs.Classes.{Class, classE, classM, classN0, classN1, classP0, classP1, classZ, BelowZero, belowZero, AtZero, atZero, AboveZero, aboveZero, LowerNegative, lowerNumber, lowerNone, UpperPositive, upperNumber, upperNone, ClassOf, isE, isM, isN0, isN1, isP0, isP1, isZ}
-use Rattle.meaning.specs.Decorations.{Divided, byZero, elsewhere, Decoration, Trv, Com}
+use Rattle.meaning.specs.Classes.{Class, BelowZero, belowZero, AtZero, atZero, AboveZero, aboveZero, LowerNegative, lowerNumber, lowerNone, UpperPositive, upperNumber, upperNone, ClassOf, isE, isM, isN0, isN1, isP0, isP1, isZ}
+use Rattle.meaning.specs.Decorations.{Divided, byZero, elsewhere}
 use Rattle.meaning.proofs.FractionLaws.{lt-le, lt-not-le, eq-le, eq-ge}
-use Rattle.arith_ends.proofs.ClassBy.{class-by}
+use Rattle.kinds.specs.Allowed.{allowedBy}
 
 over-negative : {a : End} → LowerNegative a → Over (whole 0) a
 over-negative (lowerNumber h) = over (lt-le h)
@@ -27,17 +26,7 @@ not-over (aboveZero h) (over k) = lt-not-le h k
 not-under : {b : End} → BelowZero b → Under (whole 0) b → ⊥
 not-under (belowZero h) (under k) = lt-not-le h k
 
--- What a divisor of each class allows: Trv if it holds 0, and else Com.
-abbrev pub allowed : Class → Decoration
-allowed classE = Com
-allowed classM = Trv
-allowed classN0 = Trv
-allowed classN1 = Com
-allowed classP0 = Trv
-allowed classP1 = Com
-allowed classZ = Trv
-
-pub class-allows : {Y : Set} {k : Class} → ClassOf Y k → Divided Y (allowed k)
+pub class-allows : {Y : Set} {k : Class} → ClassOf Y k → Divided Y (allowedBy k)
 class-allows isE = elsewhere (λ m. m)
 class-allows (isM l u) = byZero (record { low = over-negative l; high = under-positive u })
 class-allows (isN0 l u) = byZero (record { low = over-negative l; high = under-zero u })
@@ -45,19 +34,3 @@ class-allows (isN1 l u) = elsewhere (λ m. not-under u (m .high))
 class-allows (isP0 l u) = byZero (record { low = over-zero l; high = under-positive u })
 class-allows (isP1 l u) = elsewhere (λ m. not-over l (m .low))
 class-allows (isZ l u) = byZero (record { low = over-zero l; high = under-zero u })
-
--- A set has one class, and so Z's is no other's.
-one-class : {Y : Set} {j k : Class} → ClassOf Y j → ClassOf Y k → j ≡ k
-one-class h k = sym (class-by h) ∙ class-by k
-
-abbrev pub NotZ : Class → Type 0
-NotZ classE = Unit {0}
-NotZ classM = Unit {0}
-NotZ classN0 = Unit {0}
-NotZ classN1 = Unit {0}
-NotZ classP0 = Unit {0}
-NotZ classP1 = Unit {0}
-NotZ classZ = ⊥
-
-pub other-class : {Y : Set} {k : Class} → ClassOf Y k → NotZ k → ClassOf Y classZ → ⊥
-other-class h t z = subst NotZ (one-class h z) t
