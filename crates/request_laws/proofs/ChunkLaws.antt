@@ -7,12 +7,15 @@ use lib.Dec.{lit<, lit≤}
 use lib.ListN.{length, getD, take-append-drop}
 use Rattle.patterns.specs.Format.{binary64}
 use Rattle.meaning.specs.Bytes.{bigEndian, writeDecorated}
-use Rattle.meaning.specs.Requests.{zeros, decoratedSize, DecoratedRequest, unknown}
+use Rattle.meaning.specs.Requests.{zeros, decoratedSize, DecoratedRequest}
 use Rattle.meaning.proofs.OperationNumbers.{not-zero}
 use Rattle.cases.specs.Table.{two}
-use Rattle.request_laws.specs.Calls.{Left, Leaves}
+use Rattle.meaning.specs.Statement.{refused}
+use Rattle.meaning.specs.Calls.{Left, failed, passed}
+use Rattle.request_laws.specs.Calls.{Leaves}
 use Rattle.request_laws.specs.Chunk.{requestSize, replySize, part, Replied, Chunk}
 use Rattle.request_laws.proofs.PartLaws.{parts-agree}
+use Rattle.request_laws.proofs.CalledLaws.{called-by}
 use Rattle.request_laws.proofs.OneOutcome.{decorated-request-once}
 use Rattle.request_laws.proofs.Examples.{decoratedSum, decorated-sum, common}
 
@@ -45,7 +48,8 @@ first-reply h =
 pub second-reply : {bytes : List ℕ} → Replied (part requestSize 1 twoRequests) bytes → getD bytes 0 0 ≡ 3
 second-reply h =
     ap (λ (l : List ℕ). getD l 0 0)
-    (replied-as h (record { number = 3; place = 0; after = zeros decoratedSize }) (unknown refl refl (λ k. not-zero (k .asked) (sym (k .asks .is)))))
+    (replied-as h (record { number = 3; place = 0; after = zeros decoratedSize })
+    (called-by (refused 3 0) (passed refl (passed refl (failed (λ k. not-zero (k .asked) (sym (k .asks .is))))))))
 
 -- No run that answers the first request and repeats its reply answers every chunk for which there is room.
 pub no-repeating : (run : (count : ℕ) (input before : List ℕ) → List ℕ)
