@@ -6,7 +6,7 @@ use Prim.Native.Nat.{ℕ}
 use Rattle.patterns.specs.Format.{Format}
 use Rattle.patterns.specs.Value.{opposite}
 use Rattle.meaning.specs.Fraction.{Fraction, negated}
-use Rattle.meaning.specs.Sets.{End, Set, span, Member, mirrorEnd, mirror}
+use Rattle.meaning.specs.Sets.{End, Set, span, Member, Ordered, mirrorEnd, mirror}
 use Rattle.meaning.specs.Classes.{Class, ClassOf}
 use Rattle.meaning.specs.Pairs.{Pair, Proper, Bare, emptyPair, endOf, setOf}
 use Rattle.meaning.specs.Points.{neg}
@@ -55,10 +55,12 @@ module _ (F : Format) (x y : Pair) (proper : Proper F x × Proper F y) where
   abbrev d : End
   d = endOf F (y .upper)
 
-  -- Results on the operands are results on the spans.
-  on-spans : (op : Arithmetic) {B : Bounds} → TrueBounds (Results op (span a b) (span c d)) B → TrueBounds (Results op (setOf F x) (setOf F y)) B
-  on-spans op {B} =
+  -- Results on the operands are results on the spans, whose ends are in order.
+  on-spans : (op : Arithmetic) {B : Bounds} → (Ordered a b → Ordered c d → TrueBounds (Results op (span a b) (span c d)) B)
+      → TrueBounds (Results op (setOf F x) (setOf F y)) B
+  on-spans op {B} right =
       subst₂ (λ (X Y : Set). TrueBounds (Results op X Y) B) (sym (set-proper F x (proper .0))) (sym (set-proper F y (proper .1)))
+      (right (proper-ordered F x (proper .0)) (proper-ordered F y (proper .1)))
 
   first-class : {j : Class} → ClassOf (setOf F x) j → ClassOf (span a b) j
   first-class {j} = subst (λ (X : Set). ClassOf X j) (set-proper F x (proper .0))
@@ -67,9 +69,7 @@ module _ (F : Format) (x y : Pair) (proper : Proper F x × Proper F y) where
   second-class {k} = subst (λ (Y : Set). ClassOf Y k) (set-proper F y (proper .1))
 
   quotient-bounds : {j k : Class} → ClassOf (setOf F x) j → ClassOf (setOf F y) k → TrueBounds (Results dividing (setOf F x) (setOf F y)) (spanBounds dividing (kindOf j) k a b c d)
-  quotient-bounds jx ky =
-      on-spans dividing
-      (quotients-right (proper-ordered F x (proper .0)) (proper-ordered F y (proper .1)) (kind-of (first-class jx)) (second-class ky))
+  quotient-bounds jx ky = on-spans dividing (λ h o. quotients-right h o (kind-of (first-class jx)) (second-class ky))
 
   -- "Z | ∅"
   pub no-quotient : {k : Class} → ClassOf (setOf F y) k → isZero k ≡ true → HullOf F (Results dividing (setOf F x) (setOf F y)) (emptyPair F)
@@ -91,12 +91,12 @@ module _ (F : Format) (x y : Pair) (proper : Proper F x × Proper F y) where
     module _ {p q : ℕ} (isP : p ≡ opposite F (x .lower)) (isQ : q ≡ opposite F (y .lower)) where
       pub sum-hull : UpperEnd F (sumEnd (endOf F p) (endOf F q)) lo → UpperEnd F (sumEnd b d) hi → HullOf F (Results adding (setOf F x) (setOf F y)) z
       sum-hull down up =
-          hull-between (on-spans adding (sums-right (proper-ordered F x (proper .0)) (proper-ordered F y (proper .1))))
+          hull-between (on-spans adding sums-right)
           (rw (lower-negated F x (proper .0) isP, lower-negated F y (proper .1) isQ) at down) up
 
       pub difference-hull : UpperEnd F (sumEnd (endOf F p) d) lo → UpperEnd F (sumEnd b (endOf F q)) hi → HullOf F (Results subtracting (setOf F x) (setOf F y)) z
       difference-hull down up =
-          hull-between (on-spans subtracting (differences-right (proper-ordered F x (proper .0)) (proper-ordered F y (proper .1))))
+          hull-between (on-spans subtracting differences-right)
           (rw (lower-negated F x (proper .0) isP) at down) (rw (lower-negated F y (proper .1) isQ) at up)
 
     -- m is the first operand mirrored, and the operands have the classes j and k.
@@ -111,9 +111,7 @@ module _ (F : Format) (x y : Pair) (proper : Proper F x × Proper F y) where
       pub product-hull : UpperEnd F (productUpper (mirrorKind (kindOf j)) (kindOf k) (endOf F (m .lower)) (endOf F (m .upper)) c d) lo
           → UpperEnd F (productUpper (kindOf j) (kindOf k) a b c d) hi → HullOf F (Results multiplying (setOf F x) (setOf F y)) z
       product-hull down =
-          hull-between
-          (on-spans multiplying
-          (products-right (proper-ordered F x (proper .0)) (proper-ordered F y (proper .1)) (kind-of (first-class jx)) (kind-of (second-class ky))))
+          hull-between (on-spans multiplying (λ h o. products-right h o (kind-of (first-class jx)) (kind-of (second-class ky))))
           (mirrored-first productEnd (productCorner (mirrorKind (kindOf j)) (kindOf k)) down)
 
       pub quotient-hull : isZero k ≡ false → UpperEnd F (quotientUpper (mirrorKind (kindOf j)) k (endOf F (m .lower)) (endOf F (m .upper)) c d) lo
