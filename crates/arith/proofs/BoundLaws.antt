@@ -22,10 +22,10 @@ use Rattle.exact_ends.specs.Tables.{classBy}
 use Rattle.exact_ends.specs.Answer.{Arithmetic, adding, subtracting, multiplying, dividing, binary, Bounds, nothing, between, TrueBounds, noResults, someResults, upperOf, mirroredUpperOf, unlessZero, spanBounds, boundsOf}
 use Rattle.exact_ends.proofs.ClassLaws.{class-right}
 use Rattle.exact_ends.proofs.TrueBounds.{bounds-right}
-use Rattle.interval.proofs.JudgeLaws.{lower-pattern, upper-pattern}
-use Rattle.operands.specs.Mirror.{outwardPair, mirrorPair}
-use Rattle.operands.proofs.MirrorLaws.{mirror-set}
-use Rattle.operands.proofs.ExactHull.{member-same, exact-hull}
+use Rattle.end_pairs.proofs.TestLaws.{lower-pattern, upper-pattern}
+use Rattle.end_pairs.specs.Mirror.{outwardPair, mirrorPair}
+use Rattle.end_pairs.proofs.MirrorLaws.{mirror-set}
+use Rattle.end_pairs.proofs.ExactHull.{member-same, exact-hull}
 use Rattle.arith_ends.proofs.ClassBy.{class-by}
 
 hull-between : (F : Format) {R : Fraction → Type 0} {l u : End} {lo hi : ℕ} → TrueBounds R (between l u) → UpperEnd F l lo → UpperEnd F u hi

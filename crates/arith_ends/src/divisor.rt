@@ -4,14 +4,15 @@ ghost use Rattle.meaning.specs.Classes.{ClassOf, classZ};
 ghost use Rattle.meaning.specs.Pairs.{Bare, setOf};
 ghost use Rattle.meaning.specs.Decorations.{Divided};
 ghost use Rattle.flags.specs.Answers.{Answers};
-ghost use Rattle.interval.specs.Conversions.{pairOf, decorationOf};
+ghost use Rattle.end_pairs.specs.Conversions.{pairOf};
+ghost use Rattle.decorations.specs.Conversions.{decorationOf};
 use classify::IntervalClass;
 use classify::classify;
-use interval::Decoration;
-use interval::Interval;
+use decorations::Decoration;
+use end_pairs::EndPair;
 
 // Whether there is nothing to divide by but 0.
-pub fn is_zero(y: Interval) -> bool
+pub fn is_zero(y: EndPair) -> bool
     requires { ⌜ Bare binary64 (pairOf y) ⌝ }
     ensures { λ r. ⌜ Answers (ClassOf (setOf binary64 (pairOf y)) classZ) r ⌝ }
 {
@@ -27,7 +28,7 @@ pub fn is_zero(y: Interval) -> bool
 }
 
 // What division allows at the most: Trv if the divisor holds 0.
-pub fn divided_decoration(y: Interval) -> Decoration
+pub fn divided_decoration(y: EndPair) -> Decoration
     requires { ⌜ Bare binary64 (pairOf y) ⌝ }
     ensures { λ r. ⌜ Divided (setOf binary64 (pairOf y)) (decorationOf r) ⌝ }
 {

@@ -4,15 +4,15 @@ ghost use Rattle.meaning.specs.Pairs.{Proper, endOf};
 ghost use Rattle.meaning.specs.Supremum.{UpperEnd};
 ghost use Rattle.exact_ends.specs.Ends.{greaterEnd, productEnd};
 ghost use Rattle.exact_ends.specs.Answer.{upperOf, multiplying};
-ghost use Rattle.interval.specs.Conversions.{pairOf};
+ghost use Rattle.end_pairs.specs.Conversions.{pairOf};
 use crate::ends::product_end;
 use classify::IntervalClass;
 use classify::classify;
-use interval::Interval;
-use interval::less_or_equal;
+use end_pairs::EndPair;
+use end_pairs::less_or_equal;
 
 // The greater of a * c and b * d.
-fn greater_product(x: Interval, y: Interval) -> u64
+fn greater_product(x: EndPair, y: EndPair) -> u64
     ensures { λ r. ⌜ UpperEnd binary64 (greaterEnd (productEnd (endOf binary64 (x .a)) (endOf binary64 (y .a))) (productEnd (endOf binary64 (x .b)) (endOf binary64 (y .b)))) r ⌝ }
 {
     let lowers = product_end(x.a, y.a);
@@ -33,7 +33,7 @@ fn greater_product(x: Interval, y: Interval) -> u64
 //  Z |       0       |  0  |  0  | 0
 //
 // EMPTY is answered before; an arm for it has to be there all the same.
-pub fn product_upper(x: Interval, y: Interval) -> u64
+pub fn product_upper(x: EndPair, y: EndPair) -> u64
     requires { ⌜ Proper binary64 (pairOf x) × Proper binary64 (pairOf y) ⌝ }
     ensures { λ r. ⌜ UpperEnd binary64 (upperOf multiplying (endOf binary64 (x .a)) (endOf binary64 (x .b)) (endOf binary64 (y .a)) (endOf binary64 (y .b))) r ⌝ }
 {

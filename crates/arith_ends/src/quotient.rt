@@ -3,12 +3,12 @@ ghost use Rattle.patterns.specs.Format.{binary64};
 ghost use Rattle.meaning.specs.Pairs.{Proper, endOf};
 ghost use Rattle.meaning.specs.Supremum.{UpperEnd};
 ghost use Rattle.exact_ends.specs.Answer.{upperOf, dividing};
-ghost use Rattle.interval.specs.Conversions.{pairOf};
+ghost use Rattle.end_pairs.specs.Conversions.{pairOf};
 use crate::ends::quotient_end;
 use classify::IntervalClass;
 use classify::classify;
-use interval::INFINITY;
-use interval::Interval;
+use end_pairs::EndPair;
+use end_pairs::INFINITY;
 
 // The upper end of [a, b] / [c, d], where the divisor is not Z:
 //
@@ -20,7 +20,7 @@ use interval::Interval;
 //  Z | 0  |  0  |  0  |  0  |  0
 //
 // EMPTY and a divisor Z are answered before; an arm for them has to be there all the same.
-pub fn quotient_upper(x: Interval, y: Interval) -> u64
+pub fn quotient_upper(x: EndPair, y: EndPair) -> u64
     requires { ⌜ Proper binary64 (pairOf x) × Proper binary64 (pairOf y) ⌝ }
     ensures { λ r. ⌜ UpperEnd binary64 (upperOf dividing (endOf binary64 (x .a)) (endOf binary64 (x .b)) (endOf binary64 (y .a)) (endOf binary64 (y .b))) r ⌝ }
 {

@@ -5,7 +5,7 @@ use borrow.Author.Needs.{needs}
 use lib.Seq.{take-all}
 use Rattle.patterns.specs.Format.{binary64}
 use Rattle.meaning.specs.Requests.{wrongLength, wrongRoom, DecoratedCodec}
-use Rattle.interval.specs.Conversions.{decPairOf, decOutcome}
+use Rattle.dec_interval.specs.Conversions.{decPairOf, decOutcome}
 use Rattle.end_bytes.specs.Conversions.{orderOf}
 use Rattle.request_laws.proofs.ReadLaws.{found₁}
 use Rattle.codecs.proofs.CodecLaws.{recoded, not-recoded}
