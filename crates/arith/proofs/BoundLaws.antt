@@ -28,10 +28,10 @@ use Rattle.exact_ends.proofs.KindLaws.{kind-of}
 use Rattle.exact_ends.proofs.ClassLaws.{class-right}
 use Rattle.exact_ends.proofs.Divisors.{table-divides}
 use Rattle.exact_ends.proofs.TrueBounds.{Results, sums-right, differences-right, products-right, quotients-right}
-use Rattle.interval.proofs.JudgeLaws.{lower-pattern, upper-pattern}
-use Rattle.operands.specs.Mirror.{outwardPair, mirrorPair}
-use Rattle.operands.proofs.MirrorLaws.{mirror-set}
-use Rattle.operands.proofs.ExactHull.{member-same, exact-hull}
+use Rattle.end_pairs.proofs.TestLaws.{lower-pattern, upper-pattern}
+use Rattle.end_pairs.specs.Mirror.{outwardPair, mirrorPair}
+use Rattle.end_pairs.proofs.MirrorLaws.{mirror-set}
+use Rattle.end_pairs.proofs.ExactHull.{member-same, exact-hull}
 
 -- The ends of a proper pair, negated.
 module _ (F : Format) (x : Pair) (proper : Proper F x) {r : ℕ} where

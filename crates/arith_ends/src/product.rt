@@ -5,13 +5,13 @@ ghost use Rattle.meaning.specs.Supremum.{UpperEnd};
 ghost use Rattle.exact_ends.specs.Ends.{greaterEnd, productEnd};
 ghost use Rattle.exact_ends.specs.Corners.{endAt};
 use crate::ends::product_end;
+use end_pairs::EndPair;
+use end_pairs::INFINITY;
+use end_pairs::less_or_equal;
 use exact_ends::Corner;
-use interval::INFINITY;
-use interval::Interval;
-use interval::less_or_equal;
 
 // The greater of a * c and b * d.
-fn greater_product(x: Interval, y: Interval) -> u64
+fn greater_product(x: EndPair, y: EndPair) -> u64
     ensures { λ r. ⌜ UpperEnd binary64 (greaterEnd (productEnd (endOf binary64 (x .a)) (endOf binary64 (y .a))) (productEnd (endOf binary64 (x .b)) (endOf binary64 (y .b)))) r ⌝ }
 {
     let lowers = product_end(x.a, y.a);
@@ -23,7 +23,7 @@ fn greater_product(x: Interval, y: Interval) -> u64
 }
 
 // A corner of [a, b] * [c, d], worked out.
-pub fn product_at(corner: Corner, x: Interval, y: Interval) -> u64
+pub fn product_at(corner: Corner, x: EndPair, y: EndPair) -> u64
     ensures { λ r. ⌜ UpperEnd binary64 (endAt productEnd corner (endOf binary64 (x .a)) (endOf binary64 (x .b)) (endOf binary64 (y .a)) (endOf binary64 (y .b))) r ⌝ }
 {
     match corner {

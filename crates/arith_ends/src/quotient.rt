@@ -5,12 +5,12 @@ ghost use Rattle.meaning.specs.Supremum.{UpperEnd};
 ghost use Rattle.exact_ends.specs.Ends.{quotientEnd};
 ghost use Rattle.exact_ends.specs.Corners.{endAt, Divides};
 use crate::ends::quotient_end;
+use end_pairs::EndPair;
+use end_pairs::INFINITY;
 use exact_ends::Corner;
-use interval::INFINITY;
-use interval::Interval;
 
 // A corner of [a, b] / [c, d], worked out. No quotient is the greater of two; an arm for it has to be there all the same.
-pub fn quotient_at(corner: Corner, x: Interval, y: Interval) -> u64
+pub fn quotient_at(corner: Corner, x: EndPair, y: EndPair) -> u64
     requires { ⌜ Divides corner (endOf binary64 (y .a)) (endOf binary64 (y .b)) ⌝ }
     ensures { λ r. ⌜ UpperEnd binary64 (endAt quotientEnd corner (endOf binary64 (x .a)) (endOf binary64 (x .b)) (endOf binary64 (y .a)) (endOf binary64 (y .b))) r ⌝ }
 {

@@ -4,13 +4,14 @@ ghost use Prim.Native.Nat.{_+_, _<_, _≤_};
 ghost use lib.ListN.{length, take, drop};
 ghost use Rattle.meaning.specs.Bytes.{writePair, writeDecorated};
 ghost use Rattle.meaning.specs.Requests.{writeState};
-ghost use Rattle.interval.specs.Conversions.{pairOf, decPairOf};
+ghost use Rattle.interval.specs.Conversions.{pairOf};
+ghost use Rattle.dec_interval.specs.Conversions.{decPairOf};
 ghost use Rattle.end_bytes.specs.Conversions.{orderOf};
+use dec_interval::DecInterval;
+use decorations::decoration_byte;
 use end_bytes::ByteOrder;
 use end_bytes::write_ends;
-use interval::DecInterval;
 use interval::Interval;
-use interval::decoration_byte;
 
 // The bytes of a bare interval.
 pub const BARE: usize = 16;
@@ -54,7 +55,7 @@ pub fn write_bare(x: Interval, order: ByteOrder, output: &mut [u8])
     requires { ⌜ length (now output) ≡ 16 ⌝ }
     ensures { λ _. ⌜ now (output .exit) ≡ writePair (orderOf order) (pairOf x) ⌝ }
 {
-    write_ends(output, x, order);
+    write_ends(output, x.ends, order);
 }
 
 // A decorated interval over the whole output.
@@ -62,7 +63,7 @@ pub fn write_decorated(x: DecInterval, order: ByteOrder, output: &mut [u8])
     requires { ⌜ length (now output) ≡ 17 ⌝ }
     ensures { λ _. ⌜ now (output .exit) ≡ writeDecorated (orderOf order) (decPairOf x) ⌝ }
 {
-    let ends = x.x;
+    let ends = x.x.ends;
     let d = x.d;
     write_ends(output, ends, order);
     output[DECORATION_AT] = decoration_byte(d);

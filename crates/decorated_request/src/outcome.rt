@@ -6,8 +6,8 @@ ghost use Rattle.decorated_request.specs.Conversions.{outcomeOf};
 use calls::Reply;
 use calls::write_decorated;
 use calls::write_state;
+use dec_interval::DecInterval;
 use end_bytes::ByteOrder;
-use interval::DecInterval;
 
 pub enum Outcome {
     Given(DecInterval),

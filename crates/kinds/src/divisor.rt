@@ -2,10 +2,10 @@
 ghost use mathlib.Core.Path.{_≡_};
 ghost use Rattle.classify.specs.Conversions.{classOf};
 ghost use Rattle.exact_ends.specs.Answer.{isZero};
-ghost use Rattle.interval.specs.Conversions.{decorationOf};
+ghost use Rattle.decorations.specs.Conversions.{decorationOf};
 ghost use Rattle.kinds.specs.Allowed.{allowedBy};
 use classify::IntervalClass;
-use interval::Decoration;
+use decorations::Decoration;
 
 // Whether there is nothing to divide by but 0.
 pub fn is_zero(y: IntervalClass) -> bool

@@ -11,9 +11,9 @@ use Rattle.meaning.specs.Sets.{End, Ordered, ordered, noLower, noUpper, mirrorE
 use Rattle.meaning.specs.Pairs.{worth, minusInfinity}
 use Rattle.meaning.proofs.FractionLaws.{le-refl, lt-le, lt-not-le, neg-le}
 use Rattle.points.specs.Ends.{_⊑_, numbers, noneAbove, Greater, greaterFirst, greaterSecond, Lesser, lesserFirst, lesserSecond}
-use Rattle.interval.proofs.KeyLaws.{key-lt, finite-keys, key-infinity, key-minusInfinity}
-use Rattle.interval.proofs.Shapes.{LowerShape, lowerFinite, lowerInfinite, UpperShape, upperFinite, upperInfinite}
-use Rattle.set_op.specs.Ends.{LesserOf, lesserIsFirst, lesserIsSecond, GreaterOf, greaterIsFirst, greaterIsSecond}
+use Rattle.end_pairs.proofs.KeyLaws.{key-lt, finite-keys, key-infinity, key-minusInfinity}
+use Rattle.end_pairs.proofs.Shapes.{LowerShape, lowerFinite, lowerInfinite, UpperShape, upperFinite, upperInfinite}
+use Rattle.end_pairs.specs.Order.{LesserOf, lesserIsFirst, lesserIsSecond, GreaterOf, greaterIsFirst, greaterIsSecond}
 
 module _ (F : Format) where
   infinity-pattern : infinity F < 2 * signBit F

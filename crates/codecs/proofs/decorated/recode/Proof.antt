@@ -7,7 +7,7 @@ use Rattle.patterns.specs.Format.{binary64}
 use Rattle.meaning.specs.Statement.{refused}
 use Rattle.meaning.specs.Calls.{failed, passed}
 use Rattle.meaning.specs.Requests.{DecoratedCodec}
-use Rattle.interval.specs.Conversions.{decPairOf, decOutcome}
+use Rattle.dec_interval.specs.Conversions.{decPairOf, decOutcome}
 use Rattle.end_bytes.specs.Conversions.{orderOf}
 use Rattle.request_laws.proofs.CalledLaws.{called-by}
 use Rattle.request_laws.proofs.ReadLaws.{found₁}
