@@ -25,7 +25,7 @@ pub fn less_or_equal(a: u64, b: u64) -> bool
     key(a) <= key(b)
 }
 
-// The lesser of two ends.
+// The lesser of two ends, the first on a tie.
 pub fn lesser(a: u64, c: u64) -> u64
     ensures { λ r. ⌜ LesserOf binary64 a c r ⌝ }
 {
@@ -35,7 +35,7 @@ pub fn lesser(a: u64, c: u64) -> u64
     c
 }
 
-// The greater of two ends.
+// The greater of two ends, the second on a tie.
 pub fn greater(b: u64, d: u64) -> u64
     ensures { λ r. ⌜ GreaterOf binary64 b d r ⌝ }
 {
