@@ -22,6 +22,7 @@ class Item:
     path: tuple  # the file's name, the type of a method or of a constant of a type, and the item's own name
     kind: str
     public: bool
+    asks: bool  # whether it has a `requires`
     lines: tuple
 
     def ends_with(self, path):
@@ -57,7 +58,8 @@ class File:
             elif found:
                 indent, public, kind, name = found.groups()
                 lines = tuple(code(self.lines, at, indent))
-                self.items.append(Item(self.crate, (self.module, *owner, name), kind, bool(public), lines))
+                asks = any(line.lstrip().startswith('requires') for line in self.lines[at : lines[-1]])
+                self.items.append(Item(self.crate, (self.module, *owner, name), kind, bool(public), asks, lines))
 
 
 FILES = {(path.parts[-3], path.stem): File(path) for path in sorted(CRATES.glob('*/src/*.rt'))}
@@ -98,19 +100,29 @@ def reached(items):
     return found
 
 
-def changed(edit):
-    """What each change of a must-fail edit of src/ is in, None where it is in no item's code. Lines of `use` go with the others."""
+def changes(edit):
+    """The file that an edit is in, and its old and new texts."""
+    file, pairs = None, []
     for line in edit.read_text().splitlines():
         word, _, text = line.partition(': ')
         if word == 'file':
-            path = edit.parent.parent / text
-            file = FILES[path.parts[-3], path.stem]
-            wrong = path.read_text()
+            file = text
         elif word == 'old':
-            old = text
+            pairs.append([text, None])
         elif word == 'new':
-            before, _, after = wrong.partition(old)
-            at = before.count('\n')
-            wrong = before + text + after
-            if not USE.match(file.lines[at]):
-                yield next((item for item in file.items if at in item.lines), None)
+            pairs[-1][1] = text
+    return file, pairs
+
+
+def changed(edit):
+    """What each change of an edit of src/ is in, None where it is in no item's code. A line of `use` only serves the others."""
+    name, pairs = changes(edit)
+    path = edit.parent.parent / name
+    file = FILES[path.parts[-3], path.stem]
+    text = path.read_text()
+    for old, new in pairs:
+        before, _, after = text.partition(old)
+        at = before.count('\n')
+        text = before + new + after
+        if not USE.match(file.lines[at]):
+            yield next((item for item in file.items if at in item.lines), None)
