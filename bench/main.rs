@@ -14,6 +14,13 @@ const BLOCK: usize = 25_000;
 const ROUNDS: usize = 15;
 const SEED: u64 = 0x2545_f491_4f6c_dd1d;
 
+/// The numbers of an accepted call, and of one that is refused for the operands of some row.
+const ACCEPTED: u32 = 0;
+const BAD_OPERANDS: u32 = 5;
+
+/// An operand that no operation takes.
+const INFINITY: u64 = 0x7ff0_0000_0000_0000;
+
 // A slice is passed as a pointer and a length.
 extern "C" {
     fn rounding_exports_sums(
@@ -23,7 +30,7 @@ extern "C" {
         n: usize,
         out: *mut u64,
         k: usize,
-    );
+    ) -> u32;
     fn rounding_exports_products(
         a: *const u64,
         m: usize,
@@ -31,7 +38,7 @@ extern "C" {
         n: usize,
         out: *mut u64,
         k: usize,
-    );
+    ) -> u32;
     fn rounding_exports_quotients(
         a: *const u64,
         m: usize,
@@ -39,10 +46,10 @@ extern "C" {
         n: usize,
         out: *mut u64,
         k: usize,
-    );
+    ) -> u32;
 }
 
-type Exported = unsafe extern "C" fn(*const u64, usize, *const u64, usize, *mut u64, usize);
+type Exported = unsafe extern "C" fn(*const u64, usize, *const u64, usize, *mut u64, usize) -> u32;
 type Columns = fn(&[u64], &[u64], &mut [u64]);
 
 struct Operation {
@@ -86,34 +93,48 @@ fn time(least: &mut f64, run: impl FnOnce()) {
     *least = least.min(start.elapsed().as_nanos() as f64);
 }
 
+/// Calls a proved function on columns of one length, and gives back its number.
+fn call(proved: Exported, a: &[u64], b: &[u64], out: &mut [u64]) -> u32 {
+    let (p, q, r) = (a.as_ptr(), b.as_ptr(), out.as_mut_ptr());
+    // Each pointer goes with its own column's length.
+    unsafe { proved(p, a.len(), q, b.len(), r, out.len()) }
+}
+
 /// The times of a row by the three programs, on operands of one kind.
+/// A proved function judges all rows before it writes one, as the Rust programs do not. A call that it
+/// refuses for its last row judges them all and writes none, so that its time is taken off.
 fn measure(operation: &Operation, pair: Pair) -> [f64; 3] {
     let mut random = Random(SEED);
     let (a, b): (Vec<u64>, Vec<u64>) = (0..ROWS).map(|_| pair(&mut random)).unzip();
     let mut total = [0.0; 3];
     let mut out = [[0; BLOCK]; 3];
     for (a, b) in a.chunks(BLOCK).zip(b.chunks(BLOCK)) {
+        let mut refused = a.to_vec();
+        refused[BLOCK - 1] = INFINITY;
         let mut least = [f64::INFINITY; 3];
+        let mut judging = f64::INFINITY;
+        let (mut number, mut refusal) = (ACCEPTED, BAD_OPERANDS);
         for _ in 0..ROUNDS {
             time(&mut least[0], || (operation.plain)(a, b, &mut out[0]));
             time(&mut least[1], || (operation.words)(a, b, &mut out[1]));
-            // The columns have one length and the operands are taken, as the function requires.
-            time(&mut least[2], || unsafe {
-                (operation.proved)(
-                    a.as_ptr(),
-                    BLOCK,
-                    b.as_ptr(),
-                    BLOCK,
-                    out[2].as_mut_ptr(),
-                    BLOCK,
-                )
+            time(&mut least[2], || {
+                number = call(operation.proved, a, b, &mut out[2])
             });
+            time(&mut judging, || {
+                refusal = call(operation.proved, &refused, b, &mut out[2])
+            });
+            assert!(
+                number == ACCEPTED && refusal == BAD_OPERANDS,
+                "{}: the numbers are {number} and {refusal}",
+                operation.name
+            );
         }
         assert!(
             out[0] == out[2] && out[1] == out[2],
             "{}: the programs differ",
             operation.name
         );
+        least[2] -= judging;
         for (sum, one) in total.iter_mut().zip(least) {
             *sum += one / ROWS as f64;
         }

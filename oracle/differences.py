@@ -52,7 +52,7 @@ def not_in_the_crate(form, request, number, place):
 
 # The crate's classify is private, and its constants cannot be had.
 NOT_IN_THE_CRATE = frozenset((
-    'try_classify', 'Interval::EMPTY', 'Interval::ENTIRE', 'DecInterval::EMPTY',
+    'Interval::classify', 'Interval::EMPTY', 'Interval::ENTIRE', 'DecInterval::EMPTY',
     'DecInterval::NAI'))
 
 

@@ -133,7 +133,7 @@ def codec(module, takes):
 BARE_FUNCTIONS = (
     ('Interval::try_from', BARE, handed_back),
     *functions('Interval', BARE),
-    ('try_classify', BARE, class_number),
+    ('Interval::classify', BARE, class_number),
     ('DecInterval::new', BARE, new),
     ('DecInterval::set_dec', BARE_AND_DECORATION, set_dec),
     *codec('bare', BARE))

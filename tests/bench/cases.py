@@ -1,7 +1,8 @@
 """What document 01 says of the bench program's runs, tried on the built program."""
+import os
 import sys
 
-from program import read_exactly, run, run_in_pieces, start
+from program import read_exactly, run, run_in_pieces, run_on, run_until_it_fails, start
 from samples import (
     BAD_OPERANDS, FIRST, REPLY, REQUEST, SECOND, TOO_MANY, TOO_SHORT, accepted, fixed, judged, refused, request)
 
@@ -39,6 +40,15 @@ def try_ends(requests, answers):
     check(f'{MOST - 1} requests', run(requests[:-REQUEST]), answers[:-REPLY])
     for more in [1, 34, 35, 36, 100000]:
         check(f'{MOST} requests and {more} bytes', run(requests + bytes(more)), answers + TOO_MANY)
+
+
+def try_failed_reads(requests, answers):
+    """A read that fails counts as the end of the input: all that arrived is answered."""
+    folder = os.open('.', os.O_RDONLY)
+    check('a folder as input', run_on(folder), b'')
+    os.close(folder)
+    check('two requests, then a failed read', run_until_it_fails(requests[:2 * REQUEST]), answers[:2 * REPLY])
+    check('a piece of a request, then a failed read', run_until_it_fails(requests[:REQUEST + 9]), answers[:REPLY] + TOO_SHORT)
 
 
 def try_requests():
@@ -101,6 +111,7 @@ def main():
     requests = fixed_requests + fixed_requests[:short]
     answers = fixed_answers + fixed_answers[:short // REQUEST * REPLY]
     try_ends(requests, answers)
+    try_failed_reads(requests, answers)
     try_requests()
     try_pieces(requests, answers)
     try_waiting_peer(requests, answers)

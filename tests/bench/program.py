@@ -2,10 +2,13 @@
 import os
 import subprocess
 import time
+import tty
 
 BENCH = ['tests/x86', 'target/bin/bench']
 # Far longer than any run takes, so that a program which waits for more is found out.
 PATIENCE = 20
+# How long a program has to take what was sent before the other side hangs up.
+HANG_UP = 0.3
 
 
 def start():
@@ -30,6 +33,23 @@ def run_in_pieces(data, sizes, pause):
             at += size
             turn += 1
             time.sleep(pause)
+        return process.communicate(timeout=PATIENCE)[0]
+
+
+def run_on(descriptor):
+    """What the program writes for an input that is an open file, a terminal or a folder."""
+    return subprocess.run(BENCH, stdin=descriptor, capture_output=True, timeout=PATIENCE, check=True).stdout
+
+
+def run_until_it_fails(data):
+    """What it writes for an input that ends in a failed read: a terminal whose other side hangs up."""
+    here, there = os.openpty()
+    tty.setraw(there)
+    with subprocess.Popen(BENCH, stdin=there, stdout=subprocess.PIPE) as process:
+        os.close(there)
+        os.write(here, data)
+        time.sleep(HANG_UP)
+        os.close(here)
         return process.communicate(timeout=PATIENCE)[0]
 
 

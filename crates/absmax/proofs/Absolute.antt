@@ -24,12 +24,12 @@ use Rattle.points.proofs.EndLaws.{greater-second}
 use Rattle.points.proofs.Magnitudes.{abs-bounds}
 use Rattle.points.proofs.Exactly.{exact-number, exact-infinity}
 use Rattle.points.proofs.Answers.{answer}
-use Rattle.interval.proofs.KeyLaws.{key-below, key-above, at-zero}
-use Rattle.interval.proofs.Shapes.{UpperShape, upperFinite, upperInfinite, Shape, shapeSpan, shape}
-use Rattle.operands.specs.Mirror.{outwardPair, mirrorPair}
-use Rattle.operands.proofs.MirrorLaws.{mirror-set}
-use Rattle.operands.proofs.ExactHull.{member-same, exact-hull}
-use Rattle.set_op.specs.Ends.{GreaterOf}
+use Rattle.end_pairs.proofs.KeyLaws.{key-below, key-above, at-zero}
+use Rattle.end_pairs.proofs.Shapes.{UpperShape, upperFinite, upperInfinite, Shape, shapeSpan, shape}
+use Rattle.end_pairs.specs.Mirror.{outwardPair, mirrorPair}
+use Rattle.end_pairs.proofs.MirrorLaws.{mirror-set}
+use Rattle.end_pairs.proofs.ExactHull.{member-same, exact-hull}
+use Rattle.end_pairs.specs.Order.{GreaterOf}
 use Rattle.set_op.proofs.EndOrder.{greater-upper}
 use Rattle.set_op.proofs.TrueEnds.{SpanOf, spanOf, lower-opposite, moved}
 

@@ -5,7 +5,7 @@ use Rattle.meaning.specs.Pairs.{Pair}
 use Rattle.meaning.specs.Points.{max, min}
 use Rattle.meaning.specs.Results.{Result₂, point}
 use Rattle.points.proofs.Extremes.{max-bounds, min-bounds}
-use Rattle.set_op.specs.Ends.{LesserOf, GreaterOf}
+use Rattle.end_pairs.specs.Order.{LesserOf, GreaterOf}
 use Rattle.set_op.proofs.EndOrder.{greater-upper, lesser-upper, lesser-lower, greater-lower}
 use Rattle.set_op.proofs.TrueEnds.{Exact, SpanOf, spanOf}
 

@@ -4,20 +4,18 @@ ghost use Rattle.meaning.specs.Pairs.{Proper, Bare, setOf};
 ghost use Rattle.meaning.specs.Points.{abs, max, min};
 ghost use Rattle.meaning.specs.Results.{Result₁, Result₂, point};
 ghost use Rattle.meaning.specs.Statement.{HullOf};
-ghost use Rattle.interval.specs.Conversions.{pairOf};
+ghost use Rattle.end_pairs.specs.Conversions.{pairOf};
 use classify::IntervalClass;
 use classify::classify;
-use interval::Interval;
-use interval::tidy;
-use operands::either_empty;
-use operands::mirrored;
-use operands::opposite;
-use operands::outward;
-use set_op::greater;
-use set_op::lesser;
-
-// The pattern of +0.0.
-const ZERO: u64 = 0;
+use end_pairs::EndPair;
+use end_pairs::PLUS_ZERO;
+use end_pairs::canonical;
+use end_pairs::either_empty;
+use end_pairs::greater;
+use end_pairs::lesser;
+use end_pairs::mirrored;
+use end_pairs::opposite;
+use end_pairs::outward;
 
 // The absolute value of x = [a, b] by its class:
 //
@@ -28,57 +26,57 @@ const ZERO: u64 = 0;
 //  N* | [-b, -a]
 //  P* | [a, b]
 //  Z  | [0, 0]
-pub fn abs_of(x: Interval) -> Interval
+pub fn abs_of(x: EndPair) -> EndPair
     requires { ⌜ Bare binary64 (pairOf x) ⌝ }
     ensures { λ r. ⌜ HullOf binary64 (Result₁ abs (setOf binary64 (pairOf x))) (pairOf r) ⌝ }
 {
     match classify(x) {
-        IntervalClass::E | IntervalClass::P0 | IntervalClass::P1 | IntervalClass::Z => tidy(x),
-        IntervalClass::M => outward(ZERO, greater(opposite(x.a), x.b)),
-        IntervalClass::N0 | IntervalClass::N1 => tidy(mirrored(x)),
+        IntervalClass::E | IntervalClass::P0 | IntervalClass::P1 | IntervalClass::Z => canonical(x),
+        IntervalClass::M => outward(PLUS_ZERO, greater(opposite(x.a), x.b)),
+        IntervalClass::N0 | IntervalClass::N1 => canonical(mirrored(x)),
     }
 }
 
 // [max {a, c}, max {b, d}] for operands with members.
-fn max_of_spans(x: Interval, y: Interval) -> Interval
+fn max_of_spans(x: EndPair, y: EndPair) -> EndPair
     requires { ⌜ Proper binary64 (pairOf x) × Proper binary64 (pairOf y) ⌝ }
     ensures { λ r. ⌜ HullOf binary64 (Result₂ (point max) (setOf binary64 (pairOf x)) (setOf binary64 (pairOf y))) (pairOf r) ⌝ }
 {
-    tidy(Interval {
+    canonical(EndPair {
         a: greater(x.a, y.a),
         b: greater(x.b, y.b),
     })
 }
 
 // The maximum of two intervals, EMPTY if an operand is.
-pub fn max_of(x: Interval, y: Interval) -> Interval
+pub fn max_of(x: EndPair, y: EndPair) -> EndPair
     requires { ⌜ Bare binary64 (pairOf x) × Bare binary64 (pairOf y) ⌝ }
     ensures { λ r. ⌜ HullOf binary64 (Result₂ (point max) (setOf binary64 (pairOf x)) (setOf binary64 (pairOf y))) (pairOf r) ⌝ }
 {
     if either_empty(x, y) {
-        return Interval::EMPTY;
+        return EndPair::EMPTY;
     }
     max_of_spans(x, y)
 }
 
 // [min {a, c}, min {b, d}] for operands with members.
-fn min_of_spans(x: Interval, y: Interval) -> Interval
+fn min_of_spans(x: EndPair, y: EndPair) -> EndPair
     requires { ⌜ Proper binary64 (pairOf x) × Proper binary64 (pairOf y) ⌝ }
     ensures { λ r. ⌜ HullOf binary64 (Result₂ (point min) (setOf binary64 (pairOf x)) (setOf binary64 (pairOf y))) (pairOf r) ⌝ }
 {
-    tidy(Interval {
+    canonical(EndPair {
         a: lesser(x.a, y.a),
         b: lesser(x.b, y.b),
     })
 }
 
 // The minimum of two intervals, EMPTY if an operand is.
-pub fn min_of(x: Interval, y: Interval) -> Interval
+pub fn min_of(x: EndPair, y: EndPair) -> EndPair
     requires { ⌜ Bare binary64 (pairOf x) × Bare binary64 (pairOf y) ⌝ }
     ensures { λ r. ⌜ HullOf binary64 (Result₂ (point min) (setOf binary64 (pairOf x)) (setOf binary64 (pairOf y))) (pairOf r) ⌝ }
 {
     if either_empty(x, y) {
-        return Interval::EMPTY;
+        return EndPair::EMPTY;
     }
     min_of_spans(x, y)
 }

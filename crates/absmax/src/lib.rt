@@ -1,4 +1,4 @@
-// The absolute value of a bare interval, and the maximum and the minimum of two, of intervals that were judged already.
+// The absolute value of a bare interval, and the maximum and the minimum of two, by their ends, which were judged already.
 mod bare;
 
 pub use bare::abs_of;

@@ -4,69 +4,84 @@ ghost use Rattle.meaning.specs.Pairs.{Bare, setOf};
 ghost use Rattle.meaning.specs.Points.{neg, add, sub, mul, div};
 ghost use Rattle.meaning.specs.Results.{Result₁, Result₂, point};
 ghost use Rattle.meaning.specs.Statement.{HullOf};
-ghost use Rattle.interval.specs.Conversions.{pairOf};
-use arith_ends::is_zero;
-use arith_ends::product_upper;
-use arith_ends::quotient_upper;
+ghost use Rattle.end_pairs.specs.Conversions.{pairOf};
+use arith_ends::product_at;
+use arith_ends::quotient_at;
 use arith_ends::sum_end;
-use interval::Interval;
-use interval::tidy;
-use operands::either_empty;
-use operands::mirrored;
-use operands::opposite;
-use operands::outward;
+use classify::classify;
+use end_pairs::EndPair;
+use end_pairs::canonical;
+use end_pairs::either_empty;
+use end_pairs::mirrored;
+use end_pairs::opposite;
+use end_pairs::outward;
+use kinds::is_zero;
+use kinds::kind_of;
+use kinds::mirrored_kind;
+use tables::product_corner;
+use tables::quotient_corner;
 
 // -[a, b] = [-b, -a]
-pub fn neg_of(x: Interval) -> Interval
+pub fn neg_of(x: EndPair) -> EndPair
     requires { ⌜ Bare binary64 (pairOf x) ⌝ }
     ensures { λ r. ⌜ HullOf binary64 (Result₁ neg (setOf binary64 (pairOf x))) (pairOf r) ⌝ }
 {
-    tidy(mirrored(x))
+    canonical(mirrored(x))
 }
 
 // [a, b] + [c, d] = [a + c, b + d]
-pub fn add_of(x: Interval, y: Interval) -> Interval
+pub fn add_of(x: EndPair, y: EndPair) -> EndPair
     requires { ⌜ Bare binary64 (pairOf x) × Bare binary64 (pairOf y) ⌝ }
     ensures { λ r. ⌜ HullOf binary64 (Result₂ (point add) (setOf binary64 (pairOf x)) (setOf binary64 (pairOf y))) (pairOf r) ⌝ }
 {
     if either_empty(x, y) {
-        return Interval::EMPTY;
+        return EndPair::EMPTY;
     }
     outward(sum_end(opposite(x.a), opposite(y.a)), sum_end(x.b, y.b))
 }
 
 // [a, b] - [c, d] = [a - d, b - c]
-pub fn sub_of(x: Interval, y: Interval) -> Interval
+pub fn sub_of(x: EndPair, y: EndPair) -> EndPair
     requires { ⌜ Bare binary64 (pairOf x) × Bare binary64 (pairOf y) ⌝ }
     ensures { λ r. ⌜ HullOf binary64 (Result₂ (point sub) (setOf binary64 (pairOf x)) (setOf binary64 (pairOf y))) (pairOf r) ⌝ }
 {
     if either_empty(x, y) {
-        return Interval::EMPTY;
+        return EndPair::EMPTY;
     }
     outward(sum_end(opposite(x.a), y.b), sum_end(x.b, opposite(y.a)))
 }
 
 // 0 times an end without bound is 0: [0, 0] * ENTIRE = [0, 0].
-pub fn mul_of(x: Interval, y: Interval) -> Interval
+pub fn mul_of(x: EndPair, y: EndPair) -> EndPair
     requires { ⌜ Bare binary64 (pairOf x) × Bare binary64 (pairOf y) ⌝ }
     ensures { λ r. ⌜ HullOf binary64 (Result₂ (point mul) (setOf binary64 (pairOf x)) (setOf binary64 (pairOf y))) (pairOf r) ⌝ }
 {
     if either_empty(x, y) {
-        return Interval::EMPTY;
+        return EndPair::EMPTY;
     }
-    outward(product_upper(mirrored(x), y), product_upper(x, y))
+    let m = kind_of(classify(x));
+    let n = kind_of(classify(y));
+    outward(
+        product_at(product_corner(mirrored_kind(m), n), mirrored(x), y),
+        product_at(product_corner(m, n), x, y),
+    )
 }
 
 // The quotient by the members of y other than 0. Where there is none it is EMPTY: [-1, 1] / [0, 0].
-pub fn div_of(x: Interval, y: Interval) -> Interval
+pub fn div_of(x: EndPair, y: EndPair) -> EndPair
     requires { ⌜ Bare binary64 (pairOf x) × Bare binary64 (pairOf y) ⌝ }
     ensures { λ r. ⌜ HullOf binary64 (Result₂ (point div) (setOf binary64 (pairOf x)) (setOf binary64 (pairOf y))) (pairOf r) ⌝ }
 {
     if either_empty(x, y) {
-        return Interval::EMPTY;
+        return EndPair::EMPTY;
     }
-    if is_zero(y) {
-        return Interval::EMPTY;
+    let k = classify(y);
+    if is_zero(k) {
+        return EndPair::EMPTY;
     }
-    outward(quotient_upper(mirrored(x), y), quotient_upper(x, y))
+    let m = kind_of(classify(x));
+    outward(
+        quotient_at(quotient_corner(mirrored_kind(m), k), mirrored(x), y),
+        quotient_at(quotient_corner(m, k), x, y),
+    )
 }

@@ -13,8 +13,8 @@ use Rattle.meaning.proofs.FractionLaws.{lt-not-le, le-or-le}
 use Rattle.meaning.proofs.PatternHull.{upper-pattern}
 use Rattle.exact_ends.specs.Ends.{greaterEnd}
 use Rattle.exact_ends.proofs.Bounds.{raise, greater-most, most-first, most-second}
-use Rattle.interval.specs.Keys.{keyOf}
-use Rattle.interval.proofs.KeyLaws.{key-lt, finite-keys}
+use Rattle.end_pairs.specs.Keys.{keyOf}
+use Rattle.end_pairs.proofs.KeyLaws.{key-lt, finite-keys}
 
 module _ (F : Format) {u v : End} {r s : ℕ} (up : UpperEnd F u r) (vp : UpperEnd F v s) where
   -- What is at most a finite upper end is finite.

@@ -1,7 +1,3 @@
--- From ends that were combined and classes that were found to the upper ends of the tables.
+-- Ends of patterns, combined and rounded upward.
 pub mod EndLaws
 pub mod GreaterLaws
-pub mod ClassBy
-pub mod Arms
-pub mod Entries
-pub mod DivisorLaws

@@ -6,7 +6,6 @@ mod product;
 mod quotient;
 
 pub use divisor::divided_decoration;
-pub use divisor::is_zero;
 pub use ends::sum_end;
-pub use product::product_upper;
-pub use quotient::quotient_upper;
+pub use product::product_at;
+pub use quotient::quotient_at;

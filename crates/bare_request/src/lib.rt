@@ -3,7 +3,7 @@ ghost use mathlib.Core.Path.{_≡_};
 ghost use lib.ListN.{length};
 ghost use Rattle.patterns.specs.Format.{binary64};
 ghost use Rattle.meaning.specs.Requests.{BareOutcome, BareRequest, Requested, Known, bareSize};
-ghost use Rattle.request_laws.specs.Calls.{Tried};
+ghost use Rattle.meaning.specs.Calls.{Tried};
 ghost use Rattle.bare_request.specs.Conversions.{outcomeOf};
 
 mod operation;

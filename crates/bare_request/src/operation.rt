@@ -61,7 +61,7 @@ pub fn overlap_state(first: [u8; BARE], second: [u8; BARE]) -> Outcome
     ensures { λ r. ⌜ BareOutcome binary64 overlap first second (outcomeOf r) ⌝ }
 {
     match read_both(first, second) {
-        Both::Read(x, y) => Outcome::State(state_number(overlap_of(x, y))),
+        Both::Read(x, y) => Outcome::State(state_number(overlap_of(x.ends, y.ends))),
         Both::Refused(n, place) => Outcome::Refused(n, place),
     }
 }

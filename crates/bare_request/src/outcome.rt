@@ -1,7 +1,7 @@
 // What a request comes to, and how it is written.
 ghost use mathlib.Core.Path.{_≡_};
 ghost use lib.ListN.{length};
-ghost use Rattle.request_laws.specs.Calls.{leftBy};
+ghost use Rattle.meaning.specs.Calls.{leftBy};
 ghost use Rattle.bare_request.specs.Conversions.{outcomeOf};
 use calls::Reply;
 use calls::write_bare;

@@ -1,2 +1,6 @@
--- Laws of bytes that move.
+-- Laws of bytes that move, of replies, and of runs and their turns.
 pub mod PlaceLaws
+pub mod RepliesLaws
+pub mod RunLaws
+pub mod OneRun
+pub mod WrongRuns

@@ -2,9 +2,7 @@
 ghost use mathlib.Core.Path.{_≡_};
 ghost use Prim.Native.Nat.{_≤_};
 ghost use Rattle.bench_run.specs.Limit.{most, completeIn};
-
-// The bytes of a request.
-const REQUEST: usize = 35;
+use calls::DECORATED_REQUEST;
 
 // The requests that a run answers.
 pub const MOST: usize = 4096;
@@ -14,7 +12,7 @@ pub fn complete(held: usize, answered: usize) -> usize
     requires { ⌜ answered ≤ most ⌝ }
     ensures { λ r. ⌜ r ≡ completeIn held answered ⌝ }
 {
-    let whole = held / REQUEST;
+    let whole = held / DECORATED_REQUEST;
     let left = MOST - answered;
     if whole < left { whole } else { left }
 }

@@ -2,10 +2,11 @@
 ghost use Rattle.patterns.specs.Format.{binary64};
 ghost use Rattle.meaning.specs.Points as points;
 ghost use Rattle.meaning.specs.Statement.{Bare₁, Decorated₁};
-ghost use Rattle.interval.specs.Conversions.{pairOf, decPairOf, outcome, decOutcome};
+ghost use Rattle.interval.specs.Conversions.{pairOf, outcome};
+ghost use Rattle.dec_interval.specs.Conversions.{decPairOf, decOutcome};
+use dec_interval::DecAnswer;
+use dec_interval::DecInterval;
 use interval::Answer;
-use interval::DecAnswer;
-use interval::DecInterval;
 use interval::Interval;
 use judged::one;
 use judged::one_dec;

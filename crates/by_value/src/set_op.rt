@@ -2,10 +2,11 @@
 ghost use Rattle.patterns.specs.Format.{binary64};
 ghost use Rattle.meaning.specs.Results as results;
 ghost use Rattle.meaning.specs.Statement.{Bare₂, Decorated₂};
-ghost use Rattle.interval.specs.Conversions.{pairOf, decPairOf, outcome, decOutcome};
+ghost use Rattle.interval.specs.Conversions.{pairOf, outcome};
+ghost use Rattle.dec_interval.specs.Conversions.{decPairOf, decOutcome};
+use dec_interval::DecAnswer;
+use dec_interval::DecInterval;
 use interval::Answer;
-use interval::DecAnswer;
-use interval::DecInterval;
 use interval::Interval;
 use judged::two;
 use judged::two_dec;

@@ -4,19 +4,26 @@ ghost use Prim.Native.Nat.{_+_, _<_, _≤_};
 ghost use lib.ListN.{length, take, drop};
 ghost use Rattle.meaning.specs.Bytes.{writePair, writeDecorated};
 ghost use Rattle.meaning.specs.Requests.{writeState};
-ghost use Rattle.interval.specs.Conversions.{pairOf, decPairOf};
+ghost use Rattle.interval.specs.Conversions.{pairOf};
+ghost use Rattle.dec_interval.specs.Conversions.{decPairOf};
 ghost use Rattle.end_bytes.specs.Conversions.{orderOf};
+use dec_interval::DecInterval;
+use decorations::decoration_byte;
 use end_bytes::ByteOrder;
 use end_bytes::write_ends;
-use interval::DecInterval;
 use interval::Interval;
-use interval::decoration_byte;
 
 // The bytes of a bare interval.
 pub const BARE: usize = 16;
 
 // The bytes of a decorated interval.
 pub const DECORATED: usize = 17;
+
+// The bytes of a decorated request: an operation number and two operands.
+pub const DECORATED_REQUEST: usize = 1 + 2 * DECORATED;
+
+// The bytes of the bench program's reply to it: number, place, answer.
+pub const REPLY: usize = 2 + DECORATED;
 
 // The place of the decoration's byte.
 const DECORATION_AT: usize = 16;
@@ -48,7 +55,7 @@ pub fn write_bare(x: Interval, order: ByteOrder, output: &mut [u8])
     requires { ⌜ length (now output) ≡ 16 ⌝ }
     ensures { λ _. ⌜ now (output .exit) ≡ writePair (orderOf order) (pairOf x) ⌝ }
 {
-    write_ends(output, x, order);
+    write_ends(output, x.ends, order);
 }
 
 // A decorated interval over the whole output.
@@ -56,7 +63,7 @@ pub fn write_decorated(x: DecInterval, order: ByteOrder, output: &mut [u8])
     requires { ⌜ length (now output) ≡ 17 ⌝ }
     ensures { λ _. ⌜ now (output .exit) ≡ writeDecorated (orderOf order) (decPairOf x) ⌝ }
 {
-    let ends = x.x;
+    let ends = x.x.ends;
     let d = x.d;
     write_ends(output, ends, order);
     output[DECORATION_AT] = decoration_byte(d);

@@ -4,6 +4,8 @@ mod reply;
 
 pub use lent::BARE;
 pub use lent::DECORATED;
+pub use lent::DECORATED_REQUEST;
+pub use lent::REPLY;
 pub use lent::bare_at;
 pub use lent::decorated_at;
 pub use lent::write_bare;

@@ -3,6 +3,7 @@ pub mod Tests
 pub mod PointTests
 pub mod RowTests
 pub mod StateTests
+pub mod QuantifiedText
 pub mod DecoratedTests
 pub mod TableLaws
 pub mod Examples

@@ -4,15 +4,16 @@ use mathlib.Core.Path.{_≡_, refl, sym, _∙_, ap₂, subst₂}
 use mathlib.Core.Logic.{inl}
 use Prim.Native.Nat.{ℕ}
 use lib.Dec.{T, eqb, eqb→eq}
-use Rattle.patterns.specs.Format.{Format}
+use Rattle.patterns.specs.Format.{Format, binary64}
 use Rattle.meaning.specs.Fraction.{Fraction}
 use Rattle.meaning.specs.Sets.{at, Set, span}
 use Rattle.meaning.specs.Pairs.{Pair, worth, both, setOf, Proper}
-use Rattle.meaning.specs.Statement.{given, right₂, bareGood}
-use Rattle.meaning.specs.Overlap.{State, bothEmpty, firstEmpty, secondEmpty, before, meets, overlaps, starts, containedBy, finishes, equals, finishedBy, contains, startedBy, overlappedBy, metBy, after, stateNumber, Conditions, number, Less, lessNumbers, Same, sameNumbers, OverlapOf, BareOverlap}
+use Rattle.meaning.specs.Statement.{right₂, bareGood}
+use Rattle.meaning.specs.Overlap.{State, bothEmpty, firstEmpty, secondEmpty, before, meets, overlaps, starts, containedBy, finishes, equals, finishedBy, contains, startedBy, overlappedBy, metBy, after, stateNumber, Conditions, number, Less, lessNumbers, Same, sameNumbers, OverlapOf}
 use Rattle.meaning.proofs.PairLaws.{set-proper, end-finite}
 use Rattle.states.specs.Order.{Keys}
 use Rattle.states.proofs.KeyLaws.{by-keys, map-keys}
+use Rattle.cases.specs.Rows.{RightState}
 use Rattle.cases.proofs.Tests.{split, ltTest, eqTest, lt-tested, eq-tested, properTest, proper-tested}
 use Rattle.cases.proofs.RowTests.{boundedTest, bounded-tested}
 
@@ -69,15 +70,16 @@ stateTest F x y s n =
     (both (both (properTest F y) (boundedTest F y))
     (both (conditionsTest s (worth F (x .lower)) (worth F (x .upper)) (worth F (y .lower)) (worth F (y .upper))) (eqb n (stateNumber s))))
 
-bounded-set : (F : Format) (x : Pair) → T (both (properTest F x) (boundedTest F x)) → Proper F x × (setOf F x ≡ span (at (worth F (x .lower))) (at (worth F (x .upper))))
+pub bounded-set : (F : Format) (x : Pair) → T (both (properTest F x) (boundedTest F x)) → Proper F x × (setOf F x ≡ span (at (worth F (x .lower))) (at (worth F (x .upper))))
 bounded-set F x t =
     let s = split (properTest F x) (boundedTest F x) t in
     let h = proper-tested F x (s .0) in
     let f = bounded-tested F x (s .1) in
     (h, set-proper F x h ∙ ap₂ span (end-finite F (f .0)) (end-finite F (f .1)))
 
-pub state-tested : (F : Format) (x y : Pair) (s : State) (n : ℕ) → T (stateTest F x y s n) → BareOverlap F x y (given n)
-state-tested F x y s n t =
+pub state-tested : (x y : Pair) (s : State) (n : ℕ) → T (stateTest binary64 x y s n) → RightState x y s n
+state-tested x y s n t =
+    let F = binary64 in
     let first = both (properTest F x) (boundedTest F x) in
     let second = both (properTest F y) (boundedTest F y) in
     let third = conditionsTest s (worth F (x .lower)) (worth F (x .upper)) (worth F (y .lower)) (worth F (y .upper)) in
@@ -86,9 +88,12 @@ state-tested F x y s n t =
     let c = split third (eqb n (stateNumber s)) (b .1) in
     let h = bounded-set F x (a .0) in
     let k = bounded-set F y (b .0) in
-    right₂ (bareGood (inl (h .0))) (bareGood (inl (k .0)))
-    (record {
-      state = s;
-      holds = subst₂ (λ (X Y : Set). OverlapOf X Y s) (sym (h .1)) (sym (k .1)) (by-keys tested-keys refl refl refl refl s (conditions-tested s _ _ _ _ (c .0)));
-      is = eqb→eq n (stateNumber s) (c .1);
-    })
+    let holds : OverlapOf (setOf F x) (setOf F y) s =
+    subst₂ (λ (X Y : Set). OverlapOf X Y s) (sym (h .1)) (sym (k .1)) (by-keys tested-keys refl refl refl refl s (conditions-tested s _ _ _ _ (c .0))) in
+    let numbered = eqb→eq n (stateNumber s) (c .1) in
+    record {
+      holds = holds;
+      numbered = numbered;
+      answered =
+          right₂ (bareGood (inl (h .0))) (bareGood (inl (k .0))) (record { state = s; holds = holds; is = numbered });
+    }

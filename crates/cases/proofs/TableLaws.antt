@@ -24,7 +24,7 @@ passed : (row : Row) → T (passes row) → Right row
 passed (bare op x y z) t = arithmetic-tested binary64 op x y z t
 passed (decorated op x y z) t = decorated-tested binary64 op x y z t
 passed (stepped op x z) t = step-tested binary64 op x z t
-passed (state x y s n) t = state-tested binary64 x y s n t
+passed (state x y s n) t = state-tested x y s n t
 
 abbrev allPass : List Row → Bool
 allPass [] = true

@@ -12,13 +12,14 @@ use Rattle.meaning.specs.Results.{Operation}
 use Rattle.meaning.specs.Pairs.{Pair, Proper}
 use Rattle.meaning.specs.Decorations.{Decoration, Trv}
 use Rattle.meaning.specs.Statement.{Outcome, refused, given, sound, wrong, bareGood, right₁, right₂, first₁, first₂, second₂, JudgedDecorated, decoratedGood, DecPair, RightDecorated, rightNaI, rightInterval, HullOf, Bare₁, Bare₂, Decorated₁, Decorated₂}
-use Rattle.meaning.specs.Overlap.{BareOverlap, finishedBy, meets}
+use Rattle.meaning.specs.Overlap.{State, finishedBy, meets, BareOverlap, intervalState, DecOverlap}
 use Rattle.meaning.proofs.Unique.{bare₁-once, bare₂-once, hull-once}
 use Rattle.states.proofs.PairLaws.{proper-not-nans}
 use Rattle.states.proofs.VerdictLaws.{judged-decorated-once}
-use Rattle.states.proofs.OverlapLaws.{bareOverlap-once}
+use Rattle.states.proofs.OverlapLaws.{bareOverlap-once, decOverlap-once}
+use Rattle.cases.specs.Rows.{RightState}
 use Rattle.cases.specs.Table.{entire, emptiness, pair, only, one, two, three}
-use Rattle.cases.proofs.StateTests.{state-tested}
+use Rattle.cases.proofs.StateTests.{bounded-set, state-tested}
 use Rattle.cases.proofs.Examples.{Telling, Example₁, Example₂, example₁, example₂}
 
 -- A wrong version answers every call by one rule: it refuses, or it gives ENTIRE, EMPTY or its first operand.
@@ -105,22 +106,64 @@ no-wrong-decorated₂ op f bad all =
         (⊎-elim (proper-not-nans binary64 (e .x) (e .proper)) (proper-not-nans binary64 (e .y) (e .properToo))) r b
 
 -- Overlap: a wrong version refuses every call, or answers one state always.
-finished : BareOverlap binary64 (pair one two) (only two) (given 10)
+finished : RightState (pair one two) (only two) finishedBy 10
 unfolding infinity signBit value magnitude plus minus
-finished = state-tested binary64 (pair one two) (only two) finishedBy 10 tt
+finished = state-tested (pair one two) (only two) finishedBy 10 tt
 
-met : BareOverlap binary64 (pair one two) (pair two three) (given 4)
+met : RightState (pair one two) (pair two three) meets 4
 unfolding infinity signBit value magnitude plus minus
-met = state-tested binary64 (pair one two) (pair two three) meets 4 tt
+met = state-tested (pair one two) (pair two three) meets 4 tt
 
 pub no-refusing-overlap : (n p : Pair → Pair → ℕ) → ((x y : Pair) → BareOverlap binary64 x y (refused (n x y) (p x y))) → ⊥
 no-refusing-overlap n p all =
     let e : _≡_ {A = Outcome ℕ} (refused (n (pair one two) (only two)) (p (pair one two) (only two))) (given 10) =
-    bareOverlap-once binary64 (pair one two) (only two) (all (pair one two) (only two)) finished in
+    bareOverlap-once binary64 (pair one two) (only two) (all (pair one two) (only two)) (finished .answered) in
     let z : _≡_ {A = ℕ} 0 1 = cc in omega arith
 
 pub no-constant-overlap : (n : ℕ) → ((x y : Pair) → BareOverlap binary64 x y (given n)) → ⊥
 no-constant-overlap n all =
-    let e : _≡_ {A = Outcome ℕ} (given n) (given 10) = bareOverlap-once binary64 (pair one two) (only two) (all (pair one two) (only two)) finished in
-    let d : _≡_ {A = Outcome ℕ} (given n) (given 4) = bareOverlap-once binary64 (pair one two) (pair two three) (all (pair one two) (pair two three)) met in
+    let e : _≡_ {A = Outcome ℕ} (given n) (given 10) = bareOverlap-once binary64 (pair one two) (only two) (all (pair one two) (only two)) (finished .answered) in
+    let d : _≡_ {A = Outcome ℕ} (given n) (given 4) = bareOverlap-once binary64 (pair one two) (pair two three) (all (pair one two) (pair two three)) (met .answered) in
+    let z : _≡_ {A = ℕ} 10 4 = cc in omega arith
+
+-- The same with decorations.
+one-two-proper : Proper binary64 (pair one two)
+unfolding infinity signBit value magnitude plus minus
+one-two-proper = bounded-set binary64 (pair one two) tt .0
+
+two-proper : Proper binary64 (only two)
+unfolding infinity signBit value magnitude plus minus
+two-proper = bounded-set binary64 (only two) tt .0
+
+two-three-proper : Proper binary64 (pair two three)
+unfolding infinity signBit value magnitude plus minus
+two-three-proper = bounded-set binary64 (pair two three) tt .0
+
+decorated-state : {x y : Pair} {s : State} {n : ℕ} → Proper binary64 x → Proper binary64 y → RightState x y s n
+    → DecOverlap binary64 (trivially x) (trivially y) (given n)
+decorated-state {x} {y} {s} p q right =
+    right₂ (sound-trivially p) (sound-trivially q)
+    (intervalState (⊎-elim (proper-not-nans binary64 x p) (proper-not-nans binary64 y q))
+    (record { state = s; holds = right .holds; is = right .numbered }))
+
+finished-trivially : DecOverlap binary64 (trivially (pair one two)) (trivially (only two)) (given 10)
+finished-trivially = decorated-state one-two-proper two-proper finished
+
+met-trivially : DecOverlap binary64 (trivially (pair one two)) (trivially (pair two three)) (given 4)
+met-trivially = decorated-state one-two-proper two-three-proper met
+
+pub no-refusing-dec-overlap : (n p : DecPair → DecPair → ℕ) → ((x y : DecPair) → DecOverlap binary64 x y (refused (n x y) (p x y))) → ⊥
+no-refusing-dec-overlap n p all =
+    let x = trivially (pair one two) in
+    let y = trivially (only two) in
+    let e : _≡_ {A = Outcome ℕ} (refused (n x y) (p x y)) (given 10) = decOverlap-once binary64 x y (all x y) finished-trivially in
+    let z : _≡_ {A = ℕ} 0 1 = cc in omega arith
+
+pub no-constant-dec-overlap : (n : ℕ) → ((x y : DecPair) → DecOverlap binary64 x y (given n)) → ⊥
+no-constant-dec-overlap n all =
+    let x = trivially (pair one two) in
+    let y = trivially (only two) in
+    let w = trivially (pair two three) in
+    let e : _≡_ {A = Outcome ℕ} (given n) (given 10) = decOverlap-once binary64 x y (all x y) finished-trivially in
+    let d : _≡_ {A = Outcome ℕ} (given n) (given 4) = decOverlap-once binary64 x w (all x w) met-trivially in
     let z : _≡_ {A = ℕ} 10 4 = cc in omega arith

@@ -1,3 +1,4 @@
 -- Cases that are proved of the definitions.
+pub mod Quantified
 pub mod Rows
 pub mod Table

@@ -8,10 +8,10 @@ use Rattle.meaning.specs.Sets.{End, Set, empty}
 use Rattle.meaning.specs.Pairs.{Pair, EmptyPair}
 use Rattle.meaning.specs.Classes
 use Rattle.meaning.specs.Classes.{BelowZero, AtZero, AboveZero, LowerNegative, UpperPositive, ClassOf, classE, classM, classN0, classN1, classP0, classP1, classZ}
-use Rattle.interval.specs.Keys.{keyOf}
-use Rattle.interval.proofs.KeyLaws.{below-zero, above-zero, at-zero, key-infinity, key-minusInfinity}
-use Rattle.interval.proofs.JudgeLaws.{proper-keys}
-use Rattle.interval.proofs.Shapes.{LowerShape, lowerFinite, lowerInfinite, UpperShape, upperFinite, upperInfinite, Shape, shapeEmpty, shapeSpan}
+use Rattle.end_pairs.specs.Keys.{keyOf}
+use Rattle.end_pairs.proofs.KeyLaws.{below-zero, above-zero, at-zero, key-infinity, key-minusInfinity}
+use Rattle.end_pairs.proofs.TestLaws.{proper-keys}
+use Rattle.end_pairs.proofs.Shapes.{LowerShape, lowerFinite, lowerInfinite, UpperShape, upperFinite, upperInfinite, Shape, shapeEmpty, shapeSpan}
 
 module _ (F : Format) {n : ℕ} where
   lower-below : {e : End} → LowerShape F n e → keyOf F n < signBit F → LowerNegative e

@@ -1,3 +1,3 @@
 -- Laws of the classes.
 pub mod ClassLaws
-pub mod OneAnswer
+pub mod ClassOnce

@@ -3,16 +3,16 @@ ghost use Rattle.patterns.specs.Format.{binary64};
 ghost use Rattle.meaning.specs.Statement.{Answered₁};
 ghost use Rattle.meaning.specs.Bytes.{bigEndian, littleEndian, JudgedDecBytes, ReadDecorated};
 ghost use Rattle.meaning.specs.Requests.{DecoratedCodec};
-ghost use Rattle.interval.specs.Conversions.{decOutcome};
+ghost use Rattle.dec_interval.specs.Conversions.{decOutcome};
 ghost use Rattle.end_bytes.specs.Conversions.{orderOf};
 use calls::DECORATED;
 use calls::Reply;
 use calls::decorated_at;
 use calls::write_decorated;
+use dec_interval::DecAnswer;
 use end_bytes::ByteOrder;
 use interchange::decorated::try_from_be_bytes;
 use interchange::decorated::try_from_le_bytes;
-use interval::DecAnswer;
 
 fn read(bytes: [u8; DECORATED], order: ByteOrder) -> DecAnswer
     ensures { λ r. ⌜ Answered₁ (JudgedDecBytes binary64 (orderOf order)) (ReadDecorated binary64 (orderOf order)) bytes (decOutcome r) ⌝ }

@@ -1,4 +1,2 @@
--- Laws of decorated operands that were read, and of chunks of requests.
+-- Laws of decorated operands that were read.
 pub mod SoundOperands
-pub mod PlaceLaws
-pub mod ChunkLaws

@@ -5,7 +5,7 @@ use Rattle.meaning.specs.Statement as stated
 use Rattle.meaning.specs.Statement.{refused, given, DecPair}
 use Rattle.meaning.specs.Bytes.{bigEndian, writeDecorated}
 use Rattle.meaning.specs.Requests.{writeState, decoratedSize}
-use Rattle.interval.specs.Conversions.{decPairOf}
+use Rattle.dec_interval.specs.Conversions.{decPairOf}
 use Rattle.decorated_request.specs.declared.outcome.Outcome.{Outcome}
 use Rattle.decorated_request.specs.declared.operation.Both.{Both}
 

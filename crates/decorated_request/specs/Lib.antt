@@ -1,3 +1,2 @@
 -- What the contracts of decorated requests cite.
 pub mod Conversions
-pub mod Room

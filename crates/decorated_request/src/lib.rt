@@ -3,20 +3,18 @@ ghost use mathlib.Core.Path.{_≡_};
 ghost use lib.ListN.{length};
 ghost use Rattle.patterns.specs.Format.{binary64};
 ghost use Rattle.meaning.specs.Requests.{DecoratedOutcome, DecoratedRequest, Requested, Known, decoratedSize};
-ghost use Rattle.request_laws.specs.Calls.{Tried};
+ghost use Rattle.meaning.specs.Calls.{Tried};
 ghost use Rattle.decorated_request.specs.Conversions.{outcomeOf};
 
-mod chunk;
 mod operation;
 mod outcome;
 
 use calls::DECORATED;
+use calls::DECORATED_REQUEST;
 use calls::NO_PLACE;
 use calls::Reply;
 use calls::UNKNOWN_OPERATION;
 use calls::decorated_at;
-pub use chunk::REPLY;
-pub use chunk::answer_chunk;
 use operation::one_operand;
 use operation::overlap_state;
 use operation::two_operands;
@@ -24,8 +22,6 @@ use operations::Asked;
 use operations::numbered;
 use outcome::Outcome;
 use outcome::finish;
-
-pub const REQUEST: usize = 35;
 
 const NUMBER_AT: usize = 0;
 
@@ -57,7 +53,7 @@ fn answer(input: &[u8]) -> Outcome
 pub fn request_decorated(input: &[u8], output: &mut [u8]) -> Reply
     ensures { λ r. ⌜ DecoratedRequest binary64 (now (input .entry)) (now (output .entry)) (r .number) (r .place) (now (output .exit)) ⌝ }
 {
-    if input.len() != REQUEST {
+    if input.len() != DECORATED_REQUEST {
         return Reply::WRONG_LENGTH;
     }
     if output.len() != DECORATED {

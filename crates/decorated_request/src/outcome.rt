@@ -1,13 +1,13 @@
 // What a request comes to, and how it is written.
 ghost use mathlib.Core.Path.{_≡_};
 ghost use lib.ListN.{length};
-ghost use Rattle.request_laws.specs.Calls.{leftBy};
+ghost use Rattle.meaning.specs.Calls.{leftBy};
 ghost use Rattle.decorated_request.specs.Conversions.{outcomeOf};
 use calls::Reply;
 use calls::write_decorated;
 use calls::write_state;
+use dec_interval::DecInterval;
 use end_bytes::ByteOrder;
-use interval::DecInterval;
 
 pub enum Outcome {
     Given(DecInterval),

@@ -1,16 +1,16 @@
-// The bytes of an interval's two ends, taken apart and put together.
+// The bytes of two ends, taken apart and put together. Ends that were read are not judged yet.
 ghost use mathlib.Core.List.{_++_};
 ghost use mathlib.Core.Path.{_≡_};
 ghost use Prim.Native.Nat.{_+_, _≤_};
 ghost use lib.ListN.{length, take, drop};
 ghost use Rattle.meaning.specs.Bytes.{readPair, writePair};
-ghost use Rattle.interval.specs.Conversions.{pairOf};
+ghost use Rattle.end_pairs.specs.Conversions.{pairOf};
 ghost use Rattle.end_bytes.specs.Conversions.{orderOf};
 use crate::digits::ByteOrder;
 use crate::digits::from_digits;
 use crate::digits::in_order;
 use crate::digits::to_digits;
-use interval::Interval;
+use end_pairs::EndPair;
 
 // Where the bytes of the upper end start.
 const UPPER_AT: usize = 8;
@@ -35,18 +35,18 @@ fn put_eight(s: &mut [u8], start: usize, d: [u8; 8])
 }
 
 // The two ends that the first sixteen bytes stand for.
-pub fn read_ends(s: &[u8], order: ByteOrder) -> Interval
+pub fn read_ends(s: &[u8], order: ByteOrder) -> EndPair
     requires { ⌜ 16 ≤ length (now s) ⌝ }
     ensures { λ r. ⌜ pairOf r ≡ readPair (orderOf order) (now (s .entry)) ⌝ }
 {
-    Interval {
+    EndPair {
         a: from_digits(in_order(eight_at(s, 0), order)),
         b: from_digits(in_order(eight_at(s, UPPER_AT), order)),
     }
 }
 
 // Puts the sixteen bytes of two ends first.
-pub fn write_ends(s: &mut [u8], x: Interval, order: ByteOrder)
+pub fn write_ends(s: &mut [u8], x: EndPair, order: ByteOrder)
     requires { ⌜ 16 ≤ length (now s) ⌝ }
     ensures { λ _. ⌜ now (s .exit) ≡ writePair (orderOf order) (pairOf x) ++ drop 16 (now (s .entry)) ⌝ }
 {

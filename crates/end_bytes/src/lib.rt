@@ -1,4 +1,4 @@
-// The bytes of an interval's two ends in either byte order.
+// The bytes of two ends in either byte order.
 mod digits;
 mod ends;
 

@@ -12,7 +12,8 @@ use Rattle.meaning.specs.Fraction.{Fraction, _≺_, _≈_, whole}
 use Rattle.meaning.specs.Sets.{End, at, unbounded, Set, empty, span, Ordered, ordered, Valid, validSpan}
 use Rattle.meaning.specs.Classes.{BelowZero, belowZero, AtZero, atZero, AboveZero, aboveZero, LowerNegative, lowerNumber, lowerNone, UpperPositive, upperNumber, upperNone, ClassOf, isE, isM, isN0, isN1, isP0, isP1, isZ}
 use Rattle.meaning.proofs.FractionLaws.{le-trans, lt-not-le, lt-le, eq-le, eq-ge}
-use Rattle.exact_ends.specs.Tables.{Sign, negative, none, positive, signBy, lowerSign, upperSign, classBySigns, classBy}
+use Rattle.exact_ends.specs.Tables.{Sign, negative, none, positive, signBy, lowerSign, upperSign, classBySigns, classBy, kindOf}
+use Rattle.exact_ends.proofs.KindLaws.{KindOf, kind-of}
 
 pub data LowerSigned : End → Sign → Type 0 where
   lowNegative : {a : End} → LowerNegative a → LowerSigned a negative
@@ -80,3 +81,6 @@ class-of-signs (ordered o) (lowPositive (aboveZero l)) (highZero (atZero h)) = a
 pub class-right : (X : Set) → Valid X → ClassOf X (classBy X)
 class-right empty v = isE
 class-right (span a b) (validSpan o) = class-of-signs o (lower-signed a) (upper-signed b)
+
+pub kind-right : {a b : End} → Ordered a b → KindOf a b (kindOf (classBy (span a b)))
+kind-right {a} {b} o = kind-of (class-right (span a b) (validSpan o))

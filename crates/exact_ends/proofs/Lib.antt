@@ -7,6 +7,7 @@ pub mod ClassLaws
 pub mod ProductTable
 pub mod Reciprocals
 pub mod QuotientTable
+pub mod Divisors
 pub mod TrueBounds
 pub mod UpEnd
 pub mod Rounding

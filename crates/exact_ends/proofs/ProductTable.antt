@@ -6,8 +6,9 @@ use Rattle.meaning.specs.Decorations.{SameEnd, sameNumber, sameNone}
 use Rattle.meaning.specs.Supremum.{AtMost, atMost, Supremum}
 use Rattle.meaning.proofs.FractionLaws.{le-trans, eq-ge, eq-sym, mul-comm, neg-le}
 use Rattle.meaning.proofs.SetLaws.{some-member}
+use Rattle.exact_ends.specs.declared.Kind.{Kind}
 use Rattle.exact_ends.specs.Ends.{productEnd, greaterEnd}
-use Rattle.exact_ends.specs.Tables.{Kind, productUpper}
+use Rattle.exact_ends.specs.Tables.{productUpper}
 use Rattle.exact_ends.proofs.Bounds.{upper-supremum, lower-supremum, greater-most, most-first, most-second}
 use Rattle.exact_ends.proofs.Products.{Products, top-times-top, bottom-times-top, both-signs, zero-product, exchanged, mirrored-both, mul-neg-neg}
 use Rattle.exact_ends.proofs.KindLaws.{KindOf, ofM, ofN, ofP, ofZ, mirror-positive, not-negative, not-positive, only-zero}

@@ -1,18 +1,18 @@
 -- The quotient's table gives the true upper ends.
-use mathlib.Core.Path.{_≡_, refl}
 use Rattle.meaning.specs.Fraction.{Fraction, _≼_, _≺_, _≈_, _⊗_, negated, whole}
 use Rattle.meaning.specs.Sets.{End, at, unbounded, Set, span, Member, Inside, Over, over, overNone, Ordered, ordered, noUpper, mirrorEnd, mirror}
-use Rattle.meaning.specs.Classes.{Class, classM, classN0, classN1, classP0, classP1, classZ, belowZero, atZero, aboveZero, LowerNegative, lowerNumber, lowerNone, UpperPositive, upperNumber, upperNone, ClassOf, isM, isN0, isN1, isP0, isP1, isZ}
+use Rattle.meaning.specs.Classes.{classM, classN0, classN1, classP0, classP1, LowerNegative, lowerNumber, lowerNone, UpperPositive, upperNumber, upperNone}
 use Rattle.meaning.specs.Decorations.{SameEnd, sameNumber, sameNone}
 use Rattle.meaning.specs.Supremum.{Supremum}
-use Rattle.meaning.proofs.FractionLaws.{le-refl, le-trans, lt-le, lt-not-le, eq-refl, eq-le, eq-ge, eq-sym, eq-trans, neg-le, neg-lt, neg-eq, mul-zero, mul-eq-left}
+use Rattle.meaning.proofs.FractionLaws.{le-refl, le-trans, lt-le, lt-not-le, eq-refl, eq-ge, eq-sym, eq-trans, neg-lt, neg-eq, mul-zero, mul-eq-left}
 use Rattle.meaning.proofs.SetLaws.{some-member, mirror-ordered, member-mirror, mirror-member}
+use Rattle.exact_ends.specs.declared.Kind.{Kind}
 use Rattle.exact_ends.specs.Ends.{reciprocal, productEnd, quotientEnd}
-use Rattle.exact_ends.specs.Tables.{Kind, quotientUpper}
+use Rattle.exact_ends.specs.Tables.{mirrorKind, quotientUpper}
 use Rattle.exact_ends.proofs.Bounds.{Below, same-supremum, no-supremum, upper-supremum}
 use Rattle.exact_ends.proofs.Scaling.{recip-positive}
 use Rattle.exact_ends.proofs.Products.{Products, top-times-top, bottom-times-top, zero-product, mul-neg-neg}
-use Rattle.exact_ends.proofs.KindLaws.{KindOf, ofM, ofN, ofP, ofZ, mirror-positive, only-zero}
+use Rattle.exact_ends.proofs.KindLaws.{KindOf, ofM, ofN, ofP, ofZ, mirror-positive, mirror-negative, mirror-kind, only-zero}
 use Rattle.exact_ends.proofs.ProductTable.{sup-same}
 use Rattle.exact_ends.proofs.Reciprocals.{Reciprocals, recips-not-negative, recip-top, recip-no-top, recip-bottom, turn, unturn, recip-negated, some-recip}
 
@@ -61,14 +61,14 @@ down-over {d = unbounded} {p} h k v n o =
     sup-same (sameNumber (mul-zero p))
     (bottom-times-top (upper-supremum h) (recip-bottom o v k) n (recips-not-negative o) (x .0) (r .0) (x .1) (r .1))
 
-by-positive : {a b d : End} {q : Fraction} {j : Kind} → Ordered a b → Ordered (at q) d → UpperPositive d → whole 0 ≺ q → KindOf a b j
+pub by-positive : {a b d : End} {q : Fraction} {j : Kind} → Ordered a b → Ordered (at q) d → UpperPositive d → whole 0 ≺ q → KindOf a b j
     → Supremum (Ratios (span a b) (span (at q) d)) (quotientUpper j classP1 a b (at q) d)
 by-positive h k v p (ofM l u) = up-over h k v u p
 by-positive h k v p (ofN l n) = down-over h k v n (lt-le p)
 by-positive h k v p (ofP n u) = up-over h k v u p
 by-positive h k v p (ofZ e f) = zero-over h k v (lt-le p) (only-zero e f)
 
-by-zero-up : {a b d : End} {q : Fraction} {j : Kind} → Ordered a b → Ordered (at q) d → UpperPositive d → q ≈ whole 0 → KindOf a b j
+pub by-zero-up : {a b d : End} {q : Fraction} {j : Kind} → Ordered a b → Ordered (at q) d → UpperPositive d → q ≈ whole 0 → KindOf a b j
     → Supremum (Ratios (span a b) (span (at q) d)) (quotientUpper j classP0 a b (at q) d)
 by-zero-up h k v z (ofM l u) = up-over-zero h k v u z
 by-zero-up h k v z (ofN l n) = down-over h k v n (eq-ge z)
@@ -103,7 +103,7 @@ mirrored-ratios X Y s =
     ))
     s
 
-negative-not-zero : {q : Fraction} → q ≺ whole 0 → q ≈ whole 0 → ⊥
+pub negative-not-zero : {q : Fraction} → q ≺ whole 0 → q ≈ whole 0 → ⊥
 negative-not-zero h e = lt-not-le h (eq-ge e)
 
 -- A quotient of two ends is that of their negatives.
@@ -119,38 +119,31 @@ mirrored-under : (p : Fraction) {c : End} → LowerNegative c → SameEnd (quoti
 mirrored-under p (lowerNumber {q} h) = sameNumber (mirrored-number p q h)
 mirrored-under p lowerNone = sameNumber (eq-refl (whole 0))
 
-mirrored-zeros : {p q : Fraction} → p ≈ whole 0 → q ≈ whole 0 → (x : Fraction) → Member (span (at (negated q)) (at (negated p))) x → x ≈ whole 0
-mirrored-zeros e f = only-zero (neg-eq f) (neg-eq e)
+-- By a divisor with no positive member: both operands mirrored, where the corner is the same.
+module _ {a b c : End} {q : Fraction} {j : Kind} (h : Ordered a b) (k : Ordered c (at q)) (m : LowerNegative c) (kind : KindOf a b j) where
+  pub by-negative : q ≺ whole 0 → Supremum (Ratios (span a b) (span c (at q))) (quotientUpper j classN1 a b c (at q))
+  by-negative p =
+      mirrored-ratios (span a b) (span c (at q))
+      (sup-same (same kind) (by-positive (mirror-ordered h) (mirror-ordered k) (mirror-positive m) (neg-lt p) (mirror-kind kind)))
+    where
+      same : {a b : End} {j : Kind} → KindOf a b j
+          → SameEnd (quotientUpper (mirrorKind j) classP1 (mirrorEnd b) (mirrorEnd a) (at (negated q)) (mirrorEnd c)) (quotientUpper j classN1 a b c (at q))
+      same {a} (ofM l u) = mirrored-over a q p
+      same {a} (ofN l n) = mirrored-over a q p
+      same (ofP {q = o} n u) = mirrored-under o m
+      same (ofZ e f) = sameNumber (eq-refl (whole 0))
 
-by-negative : {a b c : End} {q : Fraction} {j : Kind} → Ordered a b → Ordered c (at q) → LowerNegative c → q ≺ whole 0 → KindOf a b j
-    → Supremum (Ratios (span a b) (span c (at q))) (quotientUpper j classN1 a b c (at q))
-by-negative {a} {b} {c} {q} h k m p (ofM l u) =
-    mirrored-ratios (span a b) (span c (at q))
-    (sup-same (mirrored-over a q p) (up-over (mirror-ordered h) (mirror-ordered k) (mirror-positive m) (mirror-positive l) (neg-lt p)))
-by-negative {a} {b} {c} {q} h k m p (ofN l n) =
-    mirrored-ratios (span a b) (span c (at q))
-    (sup-same (mirrored-over a q p) (up-over (mirror-ordered h) (mirror-ordered k) (mirror-positive m) (mirror-positive l) (neg-lt p)))
-by-negative {a = at o} {b} {c} {q} h k m p (ofP n u) =
-    mirrored-ratios (span (at o) b) (span c (at q))
-    (sup-same (mirrored-under o m) (down-over (mirror-ordered h) (mirror-ordered k) (mirror-positive m) (neg-le n) (neg-le (lt-le p))))
-by-negative {a} {b} {c} {q} h k m p (ofZ e f) =
-    mirrored-ratios (span a b) (span c (at q))
-    (zero-over (mirror-ordered h) (mirror-ordered k) (mirror-positive m) (neg-le (lt-le p)) (mirrored-zeros e f))
-
-by-zero-down : {a b c : End} {q : Fraction} {j : Kind} → Ordered a b → Ordered c (at q) → LowerNegative c → q ≈ whole 0 → KindOf a b j
-    → Supremum (Ratios (span a b) (span c (at q))) (quotientUpper j classN0 a b c (at q))
-by-zero-down {a} {b} {c} {q} h k m z (ofM l u) =
-    mirrored-ratios (span a b) (span c (at q))
-    (up-over-zero (mirror-ordered h) (mirror-ordered k) (mirror-positive m) (mirror-positive l) (neg-eq z))
-by-zero-down {a} {b} {c} {q} h k m z (ofN l n) =
-    mirrored-ratios (span a b) (span c (at q))
-    (up-over-zero (mirror-ordered h) (mirror-ordered k) (mirror-positive m) (mirror-positive l) (neg-eq z))
-by-zero-down {a = at o} {b} {c} {q} h k m z (ofP n u) =
-    mirrored-ratios (span (at o) b) (span c (at q))
-    (sup-same (mirrored-under o m) (down-over (mirror-ordered h) (mirror-ordered k) (mirror-positive m) (neg-le n) (neg-le (eq-le z))))
-by-zero-down {a} {b} {c} {q} h k m z (ofZ e f) =
-    mirrored-ratios (span a b) (span c (at q))
-    (zero-over (mirror-ordered h) (mirror-ordered k) (mirror-positive m) (neg-le (eq-le z)) (mirrored-zeros e f))
+  pub by-zero-down : q ≈ whole 0 → Supremum (Ratios (span a b) (span c (at q))) (quotientUpper j classN0 a b c (at q))
+  by-zero-down z =
+      mirrored-ratios (span a b) (span c (at q))
+      (sup-same (same kind) (by-zero-up (mirror-ordered h) (mirror-ordered k) (mirror-positive m) (neg-eq z) (mirror-kind kind)))
+    where
+      same : {a b : End} {j : Kind} → KindOf a b j
+          → SameEnd (quotientUpper (mirrorKind j) classP0 (mirrorEnd b) (mirrorEnd a) (at (negated q)) (mirrorEnd c)) (quotientUpper j classN0 a b c (at q))
+      same (ofM l u) = sameNone
+      same (ofN l n) = sameNone
+      same (ofP {q = o} n u) = mirrored-under o m
+      same (ofZ e f) = sameNumber (eq-refl (whole 0))
 
 -- Fewer divisors make fewer quotients.
 fewer : (X Y Z : Set) → Inside Z Y → Below (Ratios X Z) (Ratios X Y)
@@ -166,12 +159,12 @@ fewer X Y Z inside r m = (
   le-refl r,
 )
 
-from-zero : {d : End} → UpperPositive d → Ordered (at (whole 0)) d
+pub from-zero : {d : End} → UpperPositive d → Ordered (at (whole 0)) d
 from-zero (upperNumber h) = ordered (lt-le h)
 from-zero upperNone = noUpper
 
 -- The part from 0 up of a span with a negative lower end.
-upper-part : {c d : End} → LowerNegative c → Inside (span (at (whole 0)) d) (span c d)
+pub upper-part : {c d : End} → LowerNegative c → Inside (span (at (whole 0)) d) (span c d)
 upper-part m x h = record { low = lower m (h .low); high = h .high }
   where
     lower : {c : End} → LowerNegative c → Over x (at (whole 0)) → Over x c
@@ -182,11 +175,7 @@ unbounded-up : {a b c d : End} → Ordered a b → LowerNegative c → UpperPosi
 unbounded-up {a} {b} {c} {d} h m v u =
     no-supremum (fewer (span a b) (span c d) (span (at (whole 0)) d) (upper-part m)) (up-over-zero h (from-zero v) v u (eq-refl (whole 0)))
 
-mirror-negative : {d : End} → UpperPositive d → LowerNegative (mirrorEnd d)
-mirror-negative (upperNumber h) = lowerNumber (neg-lt h)
-mirror-negative upperNone = lowerNone
-
-by-both : {a b c d : End} {j : Kind} → Ordered a b → LowerNegative c → UpperPositive d → KindOf a b j
+pub by-both : {a b c d : End} {j : Kind} → Ordered a b → LowerNegative c → UpperPositive d → KindOf a b j
     → Supremum (Ratios (span a b) (span c d)) (quotientUpper j classM a b c d)
 by-both h m v (ofM l u) = unbounded-up h m v u
 by-both {a} {b} {c} {d} h m v (ofN l n) =
@@ -197,28 +186,3 @@ by-both {c = c} {d} h m v (ofZ e f) =
     let r = some-recip (le-refl (whole 0)) v (from-zero v) in
     zero-product (only-zero e f) (x .0) (r .0) (x .1)
     (record { y = r .1 .y; inY = upper-part m (r .1 .y) (r .1 .inY); notZero = r .1 .notZero; makes = r .1 .makes })
-
--- The table's entry is the true upper end of the quotients, for a divisor that is not Z.
-pub quotient-top : {a b c d : End} {j : Kind} {k : Class} → Ordered a b → Ordered c d → KindOf a b j → ClassOf (span c d) k → (k ≡ classZ → ⊥)
-    → Supremum (Ratios (span a b) (span c d)) (quotientUpper j k a b c d)
-quotient-top h o kind (isM m v) z = by-both h m v kind
-quotient-top h o kind (isN0 m (atZero e)) z = by-zero-down h o m e kind
-quotient-top h o kind (isN1 m (belowZero p)) z = by-negative h o m p kind
-quotient-top h o kind (isP0 (atZero e) v) z = by-zero-up h o v e kind
-quotient-top h o kind (isP1 (aboveZero p) v) z = by-positive h o v p kind
-quotient-top h o kind (isZ e f) z = absurd (z refl)
-
--- A divisor that is not Z has a member that is not 0.
-divisor : {q : Fraction} {d : End} → whole 0 ≼ q → UpperPositive d → Ordered (at q) d → (y : Fraction) × Member (span (at q) d) y × (y ≈ whole 0 → ⊥)
-divisor n v k = let r = some-recip n v k in (r .1 .y, r .1 .inY, r .1 .notZero)
-
-mirrored-divisor : (Y : Set) → (y : Fraction) × Member (mirror Y) y × (y ≈ whole 0 → ⊥) → (y : Fraction) × Member Y y × (y ≈ whole 0 → ⊥)
-mirrored-divisor Y t = (negated (t .0), mirror-member Y (t .0) (t .1), λ e. t .2 (neg-eq e))
-
-pub some-divisor : {c d : End} {k : Class} → Ordered c d → ClassOf (span c d) k → (k ≡ classZ → ⊥) → (y : Fraction) × Member (span c d) y × (y ≈ whole 0 → ⊥)
-some-divisor o (isM m v) z = let t = divisor (le-refl (whole 0)) v (from-zero v) in (t .0, upper-part m (t .0) (t .1), t .2)
-some-divisor {c} {d} o (isN0 m (atZero e)) z = mirrored-divisor (span c d) (divisor (neg-le (eq-le e)) (mirror-positive m) (mirror-ordered o))
-some-divisor {c} {d} o (isN1 m (belowZero p)) z = mirrored-divisor (span c d) (divisor (neg-le (lt-le p)) (mirror-positive m) (mirror-ordered o))
-some-divisor o (isP0 (atZero e) v) z = divisor (eq-ge e) v o
-some-divisor o (isP1 (aboveZero p) v) z = divisor (lt-le p) v o
-some-divisor o (isZ e f) z = absurd (z refl)

@@ -19,7 +19,7 @@ pub record Reciprocals (Y : Set) (r : Fraction) : Type 0 where
   pub notZero : y ≈ whole 0 → ⊥
   pub makes : r ⊗ y ≈ whole 1
 
-positive-not-zero : {y : Fraction} → whole 0 ≺ y → y ≈ whole 0 → ⊥
+pub positive-not-zero : {y : Fraction} → whole 0 ≺ y → y ≈ whole 0 → ⊥
 positive-not-zero p e = lt-not-le p (eq-le e)
 
 -- Two numbers with the same product by y, which is not 0, are the same.

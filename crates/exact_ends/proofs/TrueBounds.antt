@@ -1,28 +1,27 @@
 -- The tables give the true bounds of each arithmetic operation's results.
-use mathlib.Core.Bool.{Bool, true, false}
-use mathlib.Core.Path.{_≡_, refl, sym, _∙_, ap, subst}
-use Prim.Native.Nat.{ℕ}
 use native.Mathlib.Omega.{arith}
 use Rattle.meaning.specs.Fraction.{Fraction, _≼_, _≈_, _⊕_, _⊗_, negated, whole}
-use Rattle.meaning.specs.Sets.{End, at, unbounded, Set, span, Member, Ordered, Valid, validEmpty, validSpan, mirror}
-use Rattle.meaning.specs.Classes.{Class, classE, classM, classN0, classN1, classP0, classP1, classZ, ClassOf, isZ, atZero}
+use Rattle.meaning.specs.Sets.{End, at, unbounded, Set, span, Member, Ordered, Valid, validEmpty, validSpan, mirrorEnd, mirror}
+use Rattle.meaning.specs.Classes.{Class, belowZero, atZero, aboveZero, ClassOf, isM, isN0, isN1, isP0, isP1, isZ}
 use Rattle.meaning.specs.Points.{neg, Quotient}
 use Rattle.meaning.specs.Results.{Image₂, Result₁, Result₂, point}
 use Rattle.meaning.specs.Supremum.{AtMost, atMost, Supremum, Mirrored}
-use Rattle.meaning.proofs.FractionLaws.{le-refl, le-trans, eq-refl, eq-le, eq-sym, eq-trans, neg-eq, add-comm, add-galois, add-galois⁻¹, add-mono, mul-comm, mul-assoc, mul-one, mul-eq-left, mul-eq-right}
+use Rattle.meaning.proofs.FractionLaws.{le-refl, le-trans, lt-le, eq-refl, eq-le, eq-ge, eq-sym, eq-trans, neg-eq, add-comm, add-galois, add-galois⁻¹, add-mono, mul-comm, mul-assoc, mul-one, mul-eq-left, mul-eq-right}
 use Rattle.meaning.proofs.SetLaws.{some-member, mirror-ordered, member-mirror, mirror-member}
+use Rattle.exact_ends.specs.declared.Kind.{Kind}
 use Rattle.exact_ends.specs.Ends.{reciprocal, sumEnd}
-use Rattle.exact_ends.specs.Tables.{classBy}
-use Rattle.exact_ends.specs.Answer.{Arithmetic, adding, subtracting, multiplying, dividing, binary, between, TrueBounds, noResults, someResults, upperOf, mirroredUpperOf, unlessZero, boundsOf, boundsOfNeg}
+use Rattle.exact_ends.specs.Tables.{mirrorKind, productUpper, quotientUpper}
+use Rattle.exact_ends.specs.Answer.{Arithmetic, adding, subtracting, multiplying, dividing, binary, between, TrueBounds, noResults, someResults, spanBounds, boundsOf, boundsOfNeg}
 use Rattle.exact_ends.proofs.Bounds.{at-most, never-most, same-supremum, upper-supremum, lower-supremum}
 use Rattle.exact_ends.proofs.Scaling.{recip-times}
 use Rattle.exact_ends.proofs.Products.{Products}
-use Rattle.exact_ends.proofs.KindLaws.{kind-of, only-zero}
-use Rattle.exact_ends.proofs.ClassLaws.{class-right}
+use Rattle.exact_ends.proofs.KindLaws.{KindOf, mirror-kind, only-zero}
+use Rattle.exact_ends.proofs.ClassLaws.{class-right, kind-right}
 use Rattle.exact_ends.proofs.ProductTable.{product-top}
-use Rattle.exact_ends.proofs.QuotientTable.{Ratios, quotient-top, some-divisor}
+use Rattle.exact_ends.proofs.QuotientTable.{Ratios, by-positive, by-zero-up, by-negative, by-zero-down, by-both}
+use Rattle.exact_ends.proofs.Divisors.{Divisor, some-up, some-down, some-across}
 
-Results : Arithmetic → Set → Set → Fraction → Type 0
+abbrev pub Results : Arithmetic → Set → Set → Fraction → Type 0
 Results op X Y = Result₂ (point (binary op)) X Y
 
 -- Sums.
@@ -48,7 +47,6 @@ sum-bounds (at p) unbounded s t h x y m n = absurd (never-most h)
 sum-bounds unbounded v s t h x y m n = absurd (never-most h)
 
 sum-top : {a b c d : End} → Ordered a b → Ordered c d → Supremum (Results adding (span a b) (span c d)) (sumEnd b d)
-unfolding Results
 sum-top {b = b} {d = d} h k =
     record {
       bounds = λ w m r i. le-trans (eq-le (i .makes)) (sum-bounds b d (upper-supremum h) (upper-supremum k) m (i .x) (i .y) (i .inX) (i .inY));
@@ -74,9 +72,13 @@ neg-sum : (x y r : Fraction) → r ≈ x ⊕ y → negated r ≈ negated x ⊕ n
 unfolding _⊕_
 neg-sum x y r h = record { eq = omega (arith, h .eq) }
 
-neg-difference : (x y r : Fraction) → r ⊕ y ≈ x → negated r ⊕ negated y ≈ negated x
+neg-difference : (x y r : Fraction) → r ⊕ y ≈ x → negated r ≈ negated x ⊕ y
 unfolding _⊕_
 neg-difference x y r h = record { eq = omega (arith, h .eq) }
+
+difference-neg : (x y r : Fraction) → r ≈ x ⊕ y → negated r ⊕ y ≈ negated x
+unfolding _⊕_
+difference-neg x y r h = record { eq = omega (arith, h .eq) }
 
 difference-sum : (x y r : Fraction) → r ⊕ y ≈ x → r ≈ x ⊕ negated y
 unfolding _⊕_
@@ -99,28 +101,24 @@ kept Y y m = m
 
 -- The mirror image of the results, from mirrored operands.
 mirrored-sums : (X Y : Set) → Same (Mirrored (Results adding X Y)) (Results adding (mirror X) (mirror Y))
-unfolding Results
 mirrored-sums X Y = (
   λ r. moved negated negated negated (member-mirror X) (member-mirror Y) neg-sum (negated r),
   λ r. moved negated negated negated (mirror-member X) (mirror-member Y) neg-sum r,
 )
 
-mirrored-differences : (X Y : Set) → Same (Mirrored (Results subtracting X Y)) (Results subtracting (mirror X) (mirror Y))
-unfolding Results
+mirrored-differences : (X Y : Set) → Same (Mirrored (Results subtracting X Y)) (Results adding (mirror X) Y)
 mirrored-differences X Y = (
-  λ r. moved negated negated negated (member-mirror X) (member-mirror Y) neg-difference (negated r),
-  λ r. moved negated negated negated (mirror-member X) (mirror-member Y) neg-difference r,
+  λ r. moved negated (λ y. y) negated (member-mirror X) (kept Y) neg-difference (negated r),
+  λ r. moved negated (λ y. y) negated (mirror-member X) (kept Y) difference-neg r,
 )
 
 mirrored-products : (X Y : Set) → Same (Mirrored (Results multiplying X Y)) (Results multiplying (mirror X) Y)
-unfolding Results
 mirrored-products X Y = (
   λ r. moved negated (λ y. y) negated (member-mirror X) (kept Y) neg-product (negated r),
   λ r. moved negated (λ y. y) negated (mirror-member X) (kept Y) neg-product r,
 )
 
 mirrored-quotients : (X Y : Set) → Same (Mirrored (Results dividing X Y)) (Results dividing (mirror X) Y)
-unfolding Results
 mirrored-quotients X Y = (
   λ r. moved negated (λ y. y) negated (member-mirror X) (kept Y) neg-quotient (negated r),
   λ r. moved negated (λ y. y) negated (mirror-member X) (kept Y) neg-quotient r,
@@ -128,14 +126,12 @@ mirrored-quotients X Y = (
 
 -- A difference is a sum with the mirrored operand.
 differences-sums : (X Y : Set) → Same (Results subtracting X Y) (Results adding X (mirror Y))
-unfolding Results
 differences-sums X Y = (
   λ r. moved (λ x. x) negated (λ r. r) (kept X) (member-mirror Y) difference-sum r,
   λ r. moved (λ x. x) negated (λ r. r) (kept X) (mirror-member Y) sum-difference r,
 )
 
 products : (X Y : Set) → Same (Results multiplying X Y) (Products (Member X) (Member Y))
-unfolding Results
 products X Y = (
   λ r m. record { x = m .x; y = m .y; inA = m .inX; inB = m .inY; makes = m .makes },
   λ r m. record { x = m .x; y = m .y; inX = m .inA; inY = m .inB; makes = m .makes },
@@ -157,7 +153,6 @@ product-quotient x y z r h e k =
     }
 
 quotients : (X Y : Set) → Same (Results dividing X Y) (Ratios X Y)
-unfolding Results
 quotients X Y = (
   λ r m.
       record {
@@ -177,105 +172,62 @@ quotients X Y = (
       },
 )
 
--- A divisor, where there is one, is not [0, 0].
-abbrev Divides : Arithmetic → Class → Type 0
-Divides adding k = Unit {0}
-Divides subtracting k = Unit {0}
-Divides multiplying k = Unit {0}
-Divides dividing k = k ≡ classZ → ⊥
+-- The true bounds for two spans.
+module _ {a b c d : End} (h : Ordered a b) (k : Ordered c d) where
+  pub sums-right : TrueBounds (Results adding (span a b) (span c d)) (between (sumEnd (mirrorEnd a) (mirrorEnd c)) (sumEnd b d))
+  sums-right =
+      let x = some-member h in
+      let y = some-member k in
+      someResults (x .0 ⊕ y .0) (record { x = x .0; y = y .0; inX = x .1; inY = y .1; makes = eq-refl (x .0 ⊕ y .0) })
+      (sum-top h k) (sup-from (mirrored-sums (span a b) (span c d)) (sum-top (mirror-ordered h) (mirror-ordered k)))
 
--- The upper end that the tables give is the true one.
-upper-right : (op : Arithmetic) {a b c d : End} → Ordered a b → Ordered c d → Divides op (classBy (span c d))
-    → Supremum (Results op (span a b) (span c d)) (upperOf op a b c d)
-upper-right adding h k z = sum-top h k
-upper-right subtracting {a} {b} {c} {d} h k z =
-    sup-from (differences-sums (span a b) (span c d)) (sum-top h (mirror-ordered k))
-upper-right multiplying {a} {b} {c} {d} h k z =
-    sup-from (products (span a b) (span c d))
-    (product-top h k (kind-of (class-right (span a b) (validSpan h))) (kind-of (class-right (span c d) (validSpan k))))
-upper-right dividing {a} {b} {c} {d} h k z =
-    sup-from (quotients (span a b) (span c d))
-    (quotient-top h k (kind-of (class-right (span a b) (validSpan h))) (class-right (span c d) (validSpan k)) z)
+  pub differences-right : TrueBounds (Results subtracting (span a b) (span c d)) (between (sumEnd (mirrorEnd a) d) (sumEnd b (mirrorEnd c)))
+  differences-right =
+      let x = some-member h in
+      let y = some-member k in
+      let r = x .0 ⊕ negated (y .0) in
+      someResults r (record { x = x .0; y = y .0; inX = x .1; inY = y .1; makes = sum-difference (x .0) (negated (y .0)) r (eq-refl r) })
+      (sup-from (differences-sums (span a b) (span c d)) (sum-top h (mirror-ordered k)))
+      (sup-from (mirrored-differences (span a b) (span c d)) (sum-top (mirror-ordered h) k))
 
-mirrored-right : (op : Arithmetic) {a b c d : End} → Ordered a b → Ordered c d → Divides op (classBy (span c d))
-    → Supremum (Mirrored (Results op (span a b) (span c d))) (mirroredUpperOf op a b c d)
-mirrored-right adding {a} {b} {c} {d} h k z =
-    sup-from (mirrored-sums (span a b) (span c d)) (upper-right adding (mirror-ordered h) (mirror-ordered k) tt)
-mirrored-right subtracting {a} {b} {c} {d} h k z =
-    sup-from (mirrored-differences (span a b) (span c d)) (upper-right subtracting (mirror-ordered h) (mirror-ordered k) tt)
-mirrored-right multiplying {a} {b} {c} {d} h k z =
-    sup-from (mirrored-products (span a b) (span c d)) (upper-right multiplying (mirror-ordered h) k z)
-mirrored-right dividing {a} {b} {c} {d} h k z =
-    sup-from (mirrored-quotients (span a b) (span c d)) (upper-right dividing (mirror-ordered h) k z)
+  pub products-right : {m n : Kind} → KindOf a b m → KindOf c d n → TrueBounds (Results multiplying (span a b) (span c d))
+      (between (productUpper (mirrorKind m) n (mirrorEnd b) (mirrorEnd a) c d) (productUpper m n a b c d))
+  products-right i j =
+      let x = some-member h in
+      let y = some-member k in
+      someResults (x .0 ⊗ y .0) (record { x = x .0; y = y .0; inX = x .1; inY = y .1; makes = eq-refl (x .0 ⊗ y .0) })
+      (sup-from (products (span a b) (span c d)) (product-top h k i j))
+      (sup-from (mirrored-products (span a b) (span c d)) (sup-from (products (mirror (span a b)) (span c d)) (product-top (mirror-ordered h) k (mirror-kind i) j)))
 
--- There are results, unless the divisor is [0, 0].
-some-result : (op : Arithmetic) {a b c d : End} → Ordered a b → Ordered c d → Divides op (classBy (span c d))
-    → (r : Fraction) × Results op (span a b) (span c d) r
-unfolding Results
-some-result adding h k z =
+-- Quotients by a divisor other than [0, 0], for which the table's entry is right.
+divided : {a b c d : End} {m : Kind} {k : Class} → Ordered a b → KindOf a b m → Divisor (span c d)
+    → ((a b : End) (m : Kind) → Ordered a b → KindOf a b m → Supremum (Ratios (span a b) (span c d)) (quotientUpper m k a b c d))
+    → TrueBounds (Results dividing (span a b) (span c d)) (between (quotientUpper (mirrorKind m) k (mirrorEnd b) (mirrorEnd a) c d) (quotientUpper m k a b c d))
+divided {a} {b} {c} {d} h i y top =
     let x = some-member h in
-    let y = some-member k in
-    (x .0 ⊕ y .0, record { x = x .0; y = y .0; inX = x .1; inY = y .1; makes = eq-refl (x .0 ⊕ y .0) })
-some-result subtracting h k z =
-    let x = some-member h in
-    let y = some-member k in
-    (x .0 ⊕ negated (y .0), record { x = x .0; y = y .0; inX = x .1; inY = y .1; makes = sum-difference (x .0) (negated (y .0)) (x .0 ⊕ negated (y .0)) (eq-refl (x .0 ⊕ negated (y .0))) })
-some-result multiplying h k z =
-    let x = some-member h in
-    let y = some-member k in
-    (x .0 ⊗ y .0, record { x = x .0; y = y .0; inX = x .1; inY = y .1; makes = eq-refl (x .0 ⊗ y .0) })
-some-result dividing {a} {b} {c} {d} h k z =
-    let x = some-member h in
-    let y = some-divisor k (class-right (span c d) (validSpan k)) z in (
-      x .0 ⊗ reciprocal (y .0),
-      record { x = x .0; y = y .0; inX = x .1; inY = y .1; makes = product-quotient (x .0) (y .0) (reciprocal (y .0)) (x .0 ⊗ reciprocal (y .0)) (y .2) (recip-times (y .0) (y .2)) (eq-refl (x .0 ⊗ reciprocal (y .0))) },
-    )
+    let r = x .0 ⊗ reciprocal (y .0) in
+    someResults r
+    (record { x = x .0; y = y .0; inX = x .1; inY = y .1; makes = product-quotient (x .0) (y .0) (reciprocal (y .0)) r (y .2) (recip-times (y .0) (y .2)) (eq-refl r) })
+    (sup-from (quotients (span a b) (span c d)) (top a b _ h i))
+    (sup-from (mirrored-quotients (span a b) (span c d)) (sup-from (quotients (mirror (span a b)) (span c d)) (top (mirrorEnd b) (mirrorEnd a) _ (mirror-ordered h) (mirror-kind i))))
 
-no-quotients : (a b : End) {c d : End} → ClassOf (span c d) classZ → (r : Fraction) → Results dividing (span a b) (span c d) r → ⊥
-unfolding Results
-no-quotients a b (isZ (atZero e) (atZero f)) r m = m .makes .notZero (only-zero e f (m .y) (m .inY))
-
--- The true bounds, for two spans.
-span-right : (op : Arithmetic) {a b c d : End} → Ordered a b → Ordered c d → Divides op (classBy (span c d))
-    → TrueBounds (Results op (span a b) (span c d)) (between (mirroredUpperOf op a b c d) (upperOf op a b c d))
-span-right op h k z = let r = some-result op h k z in someResults (r .0) (r .1) (upper-right op h k z) (mirrored-right op h k z)
-
--- Only class Z is Z.
-isZero : Class → Bool
-isZero classE = false
-isZero classM = false
-isZero classN0 = false
-isZero classN1 = false
-isZero classP0 = false
-isZero classP1 = false
-isZero classZ = true
-
-not-zero : (k : Class) {l : Class} → isZero k ≡ false → l ≡ k → l ≡ classZ → ⊥
-unfolding isZero
-not-zero k {l} f e z =
-    let t : true ≡ false = ap isZero (sym z ∙ e) ∙ f in
-    let n : _≡_ {A = ℕ} 0 1 = cc in omega arith
-
-divided-right : {a b c d : End} → Ordered a b → Ordered c d → (k : Class) → classBy (span c d) ≡ k
-    → TrueBounds (Results dividing (span a b) (span c d)) (unlessZero k (between (mirroredUpperOf dividing a b c d) (upperOf dividing a b c d)))
-unfolding isZero
-divided-right {a} {b} {c} {d} h o classZ e = noResults (no-quotients a b (subst (ClassOf (span c d)) e (class-right (span c d) (validSpan o))))
-divided-right h o classE e = span-right dividing h o (not-zero classE refl e)
-divided-right h o classM e = span-right dividing h o (not-zero classM refl e)
-divided-right h o classN0 e = span-right dividing h o (not-zero classN0 refl e)
-divided-right h o classN1 e = span-right dividing h o (not-zero classN1 refl e)
-divided-right h o classP0 e = span-right dividing h o (not-zero classP0 refl e)
-divided-right h o classP1 e = span-right dividing h o (not-zero classP1 refl e)
+pub quotients-right : {a b c d : End} {m : Kind} {k : Class} → Ordered a b → Ordered c d → KindOf a b m → ClassOf (span c d) k
+    → TrueBounds (Results dividing (span a b) (span c d)) (spanBounds dividing m k a b c d)
+quotients-right h o i (isM m v) = divided h i (some-across m v) (λ a b j h i. by-both h m v i)
+quotients-right h o i (isN0 m (atZero e)) = divided h i (some-down o m (eq-le e)) (λ a b j h i. by-zero-down h o m i e)
+quotients-right h o i (isN1 m (belowZero p)) = divided h i (some-down o m (lt-le p)) (λ a b j h i. by-negative h o m i p)
+quotients-right h o i (isP0 (atZero e) v) = divided h i (some-up o v (eq-ge e)) (λ a b j h i. by-zero-up h o v e i)
+quotients-right h o i (isP1 (aboveZero p) v) = divided h i (some-up o v (lt-le p)) (λ a b j h i. by-positive h o v p i)
+quotients-right h o i (isZ (atZero e) (atZero f)) = noResults (λ r m. m .makes .notZero (only-zero e f (m .y) (m .inY)))
 
 -- The tables give the true bounds of the results, for any valid operands.
 pub bounds-right : (op : Arithmetic) {X Y : Set} → Valid X → Valid Y → TrueBounds (Result₂ (point (binary op)) X Y) (boundsOf op X Y)
-unfolding Results
 bounds-right op validEmpty k = noResults (λ r m. m .inX)
 bounds-right op (validSpan h) validEmpty = noResults (λ r m. m .inY)
-bounds-right adding (validSpan h) (validSpan k) = span-right adding h k tt
-bounds-right subtracting (validSpan h) (validSpan k) = span-right subtracting h k tt
-bounds-right multiplying (validSpan h) (validSpan k) = span-right multiplying h k tt
-bounds-right dividing (validSpan {lower = a} {upper = b} h) (validSpan {lower = c} {upper = d} k) = divided-right h k (classBy (span c d)) refl
+bounds-right adding (validSpan h) (validSpan k) = sums-right h k
+bounds-right subtracting (validSpan h) (validSpan k) = differences-right h k
+bounds-right multiplying (validSpan h) (validSpan k) = products-right h k (kind-right h) (kind-right k)
+bounds-right dividing (validSpan h) (validSpan k) = quotients-right h k (kind-right h) (class-right _ (validSpan k))
 
 -- Negation.
 pub neg-bounds-right : {X : Set} → Valid X → TrueBounds (Result₁ neg X) (boundsOfNeg X)

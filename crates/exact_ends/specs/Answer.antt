@@ -1,11 +1,13 @@
 -- The true bounds of an arithmetic operation's results, by the tables.
+use mathlib.Core.Bool.{Bool, true, false}
 use Rattle.meaning.specs.Fraction.{Fraction}
 use Rattle.meaning.specs.Sets.{End, Set, empty, span, mirrorEnd}
 use Rattle.meaning.specs.Classes.{Class, classE, classM, classN0, classN1, classP0, classP1, classZ}
 use Rattle.meaning.specs.Points.{Binary, add, sub, mul, div}
 use Rattle.meaning.specs.Supremum.{Supremum, Mirrored}
+use Rattle.exact_ends.specs.declared.Kind.{Kind}
 use Rattle.exact_ends.specs.Ends.{sumEnd}
-use Rattle.exact_ends.specs.Tables.{classBy, kindOf, productUpper, quotientUpper}
+use Rattle.exact_ends.specs.Tables.{classBy, kindOf, mirrorKind, productUpper, quotientUpper}
 
 -- The four operations of two operands that round.
 pub data Arithmetic : Type 0 where
@@ -27,40 +29,35 @@ pub data TrueBounds (R : Fraction → Type 0) : Bounds → Type 0 where
   noResults : ((r : Fraction) → R r → ⊥) → TrueBounds R nothing
   someResults : {l u : End} (s : Fraction) → R s → Supremum R u → Supremum (Mirrored R) l → TrueBounds R (between l u)
 
--- The upper end for [a, b] and [c, d].
-abbrev pub upperOf : Arithmetic → (a b c d : End) → End
-upperOf adding a b c d = sumEnd b d
-upperOf subtracting a b c d = sumEnd b (mirrorEnd c)
-upperOf multiplying a b c d = productUpper (kindOf (classBy (span a b))) (kindOf (classBy (span c d))) a b c d
-upperOf dividing a b c d = quotientUpper (kindOf (classBy (span a b))) (classBy (span c d)) a b c d
-
--- The results' mirror image comes from both operands mirrored, for a product or quotient from the first alone.
-abbrev pub mirroredUpperOf : Arithmetic → (a b c d : End) → End
-mirroredUpperOf adding a b c d = upperOf adding (mirrorEnd b) (mirrorEnd a) (mirrorEnd d) (mirrorEnd c)
-mirroredUpperOf subtracting a b c d = upperOf subtracting (mirrorEnd b) (mirrorEnd a) (mirrorEnd d) (mirrorEnd c)
-mirroredUpperOf multiplying a b c d = upperOf multiplying (mirrorEnd b) (mirrorEnd a) c d
-mirroredUpperOf dividing a b c d = upperOf dividing (mirrorEnd b) (mirrorEnd a) c d
+-- Only class Z has nothing to divide by but 0.
+abbrev pub isZero : Class → Bool
+isZero classE = false
+isZero classM = false
+isZero classN0 = false
+isZero classN1 = false
+isZero classP0 = false
+isZero classP1 = false
+isZero classZ = true
 
 -- "Z | ∅": there is no quotient by [0, 0].
-abbrev pub unlessZero : Class → Bounds → Bounds
-unlessZero classE B = B
-unlessZero classM B = B
-unlessZero classN0 B = B
-unlessZero classN1 B = B
-unlessZero classP0 B = B
-unlessZero classP1 B = B
-unlessZero classZ B = nothing
+abbrev pub unless : Bool → Bounds → Bounds
+unless true B = nothing
+unless false B = B
 
-abbrev pub spanBounds : Arithmetic → (a b c d : End) → Bounds
-spanBounds adding a b c d = between (mirroredUpperOf adding a b c d) (upperOf adding a b c d)
-spanBounds subtracting a b c d = between (mirroredUpperOf subtracting a b c d) (upperOf subtracting a b c d)
-spanBounds multiplying a b c d = between (mirroredUpperOf multiplying a b c d) (upperOf multiplying a b c d)
-spanBounds dividing a b c d = unlessZero (classBy (span c d)) (between (mirroredUpperOf dividing a b c d) (upperOf dividing a b c d))
+-- The bounds for [a, b], which is of kind m, and [c, d], of class k. The mirror image of a product or a quotient comes from
+-- that of the first operand.
+abbrev pub spanBounds : Arithmetic → Kind → Class → (a b c d : End) → Bounds
+spanBounds adding m k a b c d = between (sumEnd (mirrorEnd a) (mirrorEnd c)) (sumEnd b d)
+spanBounds subtracting m k a b c d = between (sumEnd (mirrorEnd a) d) (sumEnd b (mirrorEnd c))
+spanBounds multiplying m k a b c d =
+    between (productUpper (mirrorKind m) (kindOf k) (mirrorEnd b) (mirrorEnd a) c d) (productUpper m (kindOf k) a b c d)
+spanBounds dividing m k a b c d =
+    unless (isZero k) (between (quotientUpper (mirrorKind m) k (mirrorEnd b) (mirrorEnd a) c d) (quotientUpper m k a b c d))
 
 abbrev pub boundsOf : Arithmetic → Set → Set → Bounds
 boundsOf op empty Y = nothing
 boundsOf op (span a b) empty = nothing
-boundsOf op (span a b) (span c d) = spanBounds op a b c d
+boundsOf op (span a b) (span c d) = spanBounds op (kindOf (classBy (span a b))) (classBy (span c d)) a b c d
 
 -- Negation has the ends exchanged.
 abbrev pub boundsOfNeg : Set → Bounds

@@ -1,10 +1,12 @@
 -- The crate's tables of classes, for the upper ends. A lower end is the upper end of the mirror image, negated.
 use mathlib.Core.Bool.{Bool, true, false}
 use lib.Dec.{ltb, eqb}
-use Rattle.meaning.specs.Fraction.{whole}
 use Rattle.meaning.specs.Sets.{End, at, unbounded, Set, empty, span}
 use Rattle.meaning.specs.Classes.{Class, classE, classM, classN0, classN1, classP0, classP1, classZ}
-use Rattle.exact_ends.specs.Ends.{productEnd, quotientEnd, greaterEnd}
+use Rattle.exact_ends.specs.declared.Kind.{Kind}
+use Rattle.exact_ends.specs.declared.Corner.{Corner}
+use Rattle.exact_ends.specs.Ends.{productEnd, quotientEnd}
+use Rattle.exact_ends.specs.Corners.{endAt}
 
 -- The sign of a number.
 pub data Sign : Type 0 where
@@ -40,19 +42,22 @@ abbrev pub classBy : Set → Class
 classBy empty = classE
 classBy (span a b) = classBySigns (lowerSign a) (upperSign b)
 
--- "N* | a < 0 ∧ b ≤ 0" and "P* | a ≥ 0 ∧ 0 < b" of the crate's comments: N0 and N1 are N, P0 and P1 are P.
-pub data Kind : Type 0 where
-  kindM kindN kindP kindZ : Kind
-
 -- EMPTY has no kind; the tables are not asked of it.
 abbrev pub kindOf : Class → Kind
-kindOf classE = kindZ
-kindOf classM = kindM
-kindOf classN0 = kindN
-kindOf classN1 = kindN
-kindOf classP0 = kindP
-kindOf classP1 = kindP
-kindOf classZ = kindZ
+kindOf classE = Kind.Z
+kindOf classM = Kind.M
+kindOf classN0 = Kind.N
+kindOf classN1 = Kind.N
+kindOf classP0 = Kind.P
+kindOf classP1 = Kind.P
+kindOf classZ = Kind.Z
+
+-- The kind of the mirror image.
+abbrev pub mirrorKind : Kind → Kind
+mirrorKind Kind.M = Kind.M
+mirrorKind Kind.N = Kind.P
+mirrorKind Kind.P = Kind.N
+mirrorKind Kind.Z = Kind.Z
 
 -- The upper end of [a, b] * [c, d]:
 --    |      M        |  N  |  P  | Z
@@ -61,20 +66,20 @@ kindOf classZ = kindZ
 --  N |      a*c      | a*c | b*c | 0
 --  P |      b*d      | a*d | b*d | 0
 --  Z |       0       |  0  |  0  | 0
-abbrev pub productUpper : Kind → Kind → (a b c d : End) → End
-productUpper kindM kindM a b c d = greaterEnd (productEnd a c) (productEnd b d)
-productUpper kindM kindN a b c d = productEnd a c
-productUpper kindM kindP a b c d = productEnd b d
-productUpper kindM kindZ a b c d = at (whole 0)
-productUpper kindN kindM a b c d = productEnd a c
-productUpper kindN kindN a b c d = productEnd a c
-productUpper kindN kindP a b c d = productEnd b c
-productUpper kindN kindZ a b c d = at (whole 0)
-productUpper kindP kindM a b c d = productEnd b d
-productUpper kindP kindN a b c d = productEnd a d
-productUpper kindP kindP a b c d = productEnd b d
-productUpper kindP kindZ a b c d = at (whole 0)
-productUpper kindZ k a b c d = at (whole 0)
+abbrev pub productCorner : Kind → Kind → Corner
+productCorner Kind.M Kind.M = Corner.Greater
+productCorner Kind.M Kind.N = Corner.LowerLower
+productCorner Kind.M Kind.P = Corner.UpperUpper
+productCorner Kind.M Kind.Z = Corner.Zero
+productCorner Kind.N Kind.M = Corner.LowerLower
+productCorner Kind.N Kind.N = Corner.LowerLower
+productCorner Kind.N Kind.P = Corner.UpperLower
+productCorner Kind.N Kind.Z = Corner.Zero
+productCorner Kind.P Kind.M = Corner.UpperUpper
+productCorner Kind.P Kind.N = Corner.LowerUpper
+productCorner Kind.P Kind.P = Corner.UpperUpper
+productCorner Kind.P Kind.Z = Corner.Zero
+productCorner Kind.Z n = Corner.Zero
 
 -- The upper end of [a, b] / [c, d], where the divisor is not Z:
 --    | M  | N0  | N1  | P0  | P1
@@ -83,26 +88,32 @@ productUpper kindZ k a b c d = at (whole 0)
 --  N | +∞ | +∞  | a/d | b/d | b/d
 --  P | +∞ | a/c | a/c | +∞  | b/c
 --  Z | 0  |  0  |  0  |  0  |  0
+abbrev pub quotientCorner : Kind → Class → Corner
+quotientCorner Kind.M classM = Corner.Unbounded
+quotientCorner Kind.M classN0 = Corner.Unbounded
+quotientCorner Kind.M classN1 = Corner.LowerUpper
+quotientCorner Kind.M classP0 = Corner.Unbounded
+quotientCorner Kind.M classP1 = Corner.UpperLower
+quotientCorner Kind.M classZ = Corner.Unbounded
+quotientCorner Kind.M classE = Corner.Unbounded
+quotientCorner Kind.N classM = Corner.Unbounded
+quotientCorner Kind.N classN0 = Corner.Unbounded
+quotientCorner Kind.N classN1 = Corner.LowerUpper
+quotientCorner Kind.N classP0 = Corner.UpperUpper
+quotientCorner Kind.N classP1 = Corner.UpperUpper
+quotientCorner Kind.N classZ = Corner.Unbounded
+quotientCorner Kind.N classE = Corner.Unbounded
+quotientCorner Kind.P classM = Corner.Unbounded
+quotientCorner Kind.P classN0 = Corner.LowerLower
+quotientCorner Kind.P classN1 = Corner.LowerLower
+quotientCorner Kind.P classP0 = Corner.Unbounded
+quotientCorner Kind.P classP1 = Corner.UpperLower
+quotientCorner Kind.P classZ = Corner.Unbounded
+quotientCorner Kind.P classE = Corner.Unbounded
+quotientCorner Kind.Z k = Corner.Zero
+
+abbrev pub productUpper : Kind → Kind → (a b c d : End) → End
+productUpper m n = endAt productEnd (productCorner m n)
+
 abbrev pub quotientUpper : Kind → Class → (a b c d : End) → End
-quotientUpper kindZ k a b c d = at (whole 0)
-quotientUpper kindM classN1 a b c d = quotientEnd a d
-quotientUpper kindM classP1 a b c d = quotientEnd b c
-quotientUpper kindM classM a b c d = unbounded
-quotientUpper kindM classN0 a b c d = unbounded
-quotientUpper kindM classP0 a b c d = unbounded
-quotientUpper kindM classZ a b c d = unbounded
-quotientUpper kindM classE a b c d = unbounded
-quotientUpper kindN classM a b c d = unbounded
-quotientUpper kindN classN0 a b c d = unbounded
-quotientUpper kindN classN1 a b c d = quotientEnd a d
-quotientUpper kindN classP0 a b c d = quotientEnd b d
-quotientUpper kindN classP1 a b c d = quotientEnd b d
-quotientUpper kindN classZ a b c d = unbounded
-quotientUpper kindN classE a b c d = unbounded
-quotientUpper kindP classM a b c d = unbounded
-quotientUpper kindP classN0 a b c d = quotientEnd a c
-quotientUpper kindP classN1 a b c d = quotientEnd a c
-quotientUpper kindP classP0 a b c d = unbounded
-quotientUpper kindP classP1 a b c d = quotientEnd b c
-quotientUpper kindP classZ a b c d = unbounded
-quotientUpper kindP classE a b c d = unbounded
+quotientUpper m k = endAt quotientEnd (quotientCorner m k)

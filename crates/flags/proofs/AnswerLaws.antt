@@ -50,3 +50,10 @@ or-else n = answers-iff inr (⊎-elim (λ p. absurd (n p)) (λ q. q))
 pub answers-not : {P : Type 0} {t : Bool} → Answers P t → Answers (P → ⊥) (not t)
 answers-not (affirmed p) = denied (λ n. n p)
 answers-not (denied n) = affirmed n
+
+-- A question has one answer.
+pub answers-once : (P : Type 0) (b c : Bool) → Answers P b → Answers P c → b ≡ c
+answers-once P b c (affirmed p) (affirmed q) = refl
+answers-once P b c (affirmed p) (denied n) = absurd (n p)
+answers-once P b c (denied n) (affirmed p) = absurd (n p)
+answers-once P b c (denied n) (denied m) = refl

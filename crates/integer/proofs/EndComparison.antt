@@ -15,9 +15,9 @@ use Rattle.meaning.specs.Decorations.{SameEnd, sameNumber, sameNone}
 use Rattle.meaning.proofs.FractionLaws.{lt-not-le, eq-le, eq-ge, antisymm}
 use Rattle.meaning.proofs.PairLaws.{end-finite, end-infinity, end-minusInfinity}
 use Rattle.flags.specs.Answers.{Answers}
-use Rattle.interval.specs.Keys.{keyOf}
+use Rattle.end_pairs.specs.Keys.{keyOf}
 use Rattle.flags.proofs.AnswerLaws.{answers-eq}
-use Rattle.interval.proofs.KeyLaws.{key-le, key-lt, finite-keys}
+use Rattle.end_pairs.proofs.KeyLaws.{key-le, key-lt, finite-keys}
 use Rattle.integer.specs.Jumping.{OneSide, lowers, uppers}
 
 module _ (F : Format) {a b : ℕ} (f : Finite F a) (g : Finite F b) where

@@ -23,7 +23,7 @@ use Rattle.meaning.proofs.PairLaws.{end-finite, set-proper}
 use Rattle.meaning.proofs.Unique.{hull-once}
 use Rattle.flags.specs.Answers.{Answers}
 use Rattle.flags.proofs.AnswerLaws.{answers-iff}
-use Rattle.operands.proofs.EmptyLaws.{not-empty, empty-hull₁}
+use Rattle.end_pairs.proofs.EmptyLaws.{not-empty, empty-hull₁}
 use Rattle.wholes.specs.Made.{operation}
 use Rattle.wholes.specs.declared.functions.Function.{Function}
 use Rattle.wholes.proofs.EnclosureLaws.{natural}

@@ -20,7 +20,7 @@ use Rattle.points.specs.Ends.{EndMakes, ofNumber, ofNone, signOfNone}
 use Rattle.points.proofs.Images.{rising-bounds}
 use Rattle.points.proofs.Exactly.{exact-number, exact-infinity}
 use Rattle.points.proofs.Answers.{answer}
-use Rattle.interval.proofs.JudgeLaws.{lower-pattern}
+use Rattle.end_pairs.proofs.TestLaws.{lower-pattern}
 use Rattle.wholes.specs.Made.{Made}
 use Rattle.wholes.proofs.SplitLaws.{one-finite, one-worth}
 use Rattle.integer.specs.Rising.{Upper, UpperMade}

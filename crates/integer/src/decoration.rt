@@ -4,17 +4,18 @@ ghost use Rattle.meaning.specs.Pairs.{Bare, setOf};
 ghost use Rattle.meaning.specs.Results.{Result₁};
 ghost use Rattle.meaning.specs.Decorations.{Allows₁};
 ghost use Rattle.meaning.specs.Statement.{HullOf};
-ghost use Rattle.interval.specs.Conversions.{pairOf, decorationOf};
+ghost use Rattle.end_pairs.specs.Conversions.{pairOf};
+ghost use Rattle.decorations.specs.Conversions.{decorationOf};
 ghost use Rattle.wholes.specs.Made.{operation};
 use crate::jumps::jumps;
-use interval::Decoration;
-use interval::Interval;
-use interval::is_empty_pair;
-use interval::is_point;
+use decorations::Decoration;
+use end_pairs::EndPair;
+use end_pairs::is_empty_pair;
+use end_pairs::is_point;
 use wholes::Function;
 
 // The highest decoration that a function's result `z` on the operand `x` may have.
-pub fn allowed(f: Function, x: Interval, z: Interval) -> Decoration
+pub fn allowed(f: Function, x: EndPair, z: EndPair) -> Decoration
     requires { ⌜ Bare binary64 (pairOf x) × HullOf binary64 (Result₁ (operation f) (setOf binary64 (pairOf x))) (pairOf z) ⌝ }
     ensures { λ r. ⌜ Allows₁ (operation f) (setOf binary64 (pairOf x)) (setOf binary64 (pairOf z)) (decorationOf r) ⌝ }
 {

@@ -2,7 +2,7 @@
 ghost use Rattle.patterns.specs.Format.{binary64, infinity};
 ghost use Rattle.wholes.specs.Made.{operation};
 ghost use Rattle.integer.specs.Rising.{Upper, UpperMade};
-use interval::INFINITY;
+use end_pairs::INFINITY;
 use wholes::Function;
 use wholes::ONE;
 use wholes::value_at;

@@ -4,17 +4,15 @@ ghost use Rattle.patterns.specs.Format.{binary64};
 ghost use Rattle.meaning.specs.Pairs.{Proper, endOf, setOf};
 ghost use Rattle.meaning.specs.Decorations.{SameEnd, LowersAgree, UppersAgree, HalfEnd, ZeroLower, DacTest};
 ghost use Rattle.flags.specs.Answers.{Answers};
-ghost use Rattle.interval.specs.Conversions.{pairOf};
+ghost use Rattle.end_pairs.specs.Conversions.{pairOf};
 ghost use Rattle.wholes.specs.Made.{operation};
 ghost use Rattle.integer.specs.Jumping.{OneSide, HalfAt};
-use interval::Interval;
-use interval::is_finite;
-use interval::key;
+use end_pairs::EndPair;
+use end_pairs::PLUS_ZERO;
+use end_pairs::is_finite;
+use end_pairs::key;
 use wholes::Function;
 use wholes::has_half;
-
-// The pattern of 0.
-const ZERO: u64 = 0;
 
 // Whether two lower or two upper ends agree.
 fn same_end(a: u64, b: u64) -> bool
@@ -24,14 +22,14 @@ fn same_end(a: u64, b: u64) -> bool
     key(a) == key(b)
 }
 
-fn same_lower(x: Interval, z: Interval) -> bool
+fn same_lower(x: EndPair, z: EndPair) -> bool
     requires { ⌜ Proper binary64 (pairOf x) × Proper binary64 (pairOf z) ⌝ }
     ensures { λ r. ⌜ Answers (LowersAgree (setOf binary64 (pairOf x)) (setOf binary64 (pairOf z))) r ⌝ }
 {
     same_end(x.a, z.a)
 }
 
-fn same_upper(x: Interval, z: Interval) -> bool
+fn same_upper(x: EndPair, z: EndPair) -> bool
     requires { ⌜ Proper binary64 (pairOf x) × Proper binary64 (pairOf z) ⌝ }
     ensures { λ r. ⌜ Answers (UppersAgree (setOf binary64 (pairOf x)) (setOf binary64 (pairOf z))) r ⌝ }
 {
@@ -39,7 +37,7 @@ fn same_upper(x: Interval, z: Interval) -> bool
 }
 
 // Whether either end is left as it was.
-fn same_either(x: Interval, z: Interval) -> bool
+fn same_either(x: EndPair, z: EndPair) -> bool
     requires { ⌜ Proper binary64 (pairOf x) × Proper binary64 (pairOf z) ⌝ }
     ensures { λ r. ⌜ Answers (LowersAgree (setOf binary64 (pairOf x)) (setOf binary64 (pairOf z)) ⊎ UppersAgree (setOf binary64 (pairOf x)) (setOf binary64 (pairOf z))) r ⌝ }
 {
@@ -55,22 +53,22 @@ fn half_at(b: u64) -> bool
     is_finite(b) && has_half(b)
 }
 
-fn half_end(x: Interval) -> bool
+fn half_end(x: EndPair) -> bool
     requires { ⌜ Proper binary64 (pairOf x) ⌝ }
     ensures { λ r. ⌜ Answers (HalfEnd (setOf binary64 (pairOf x))) r ⌝ }
 {
     half_at(x.a) || half_at(x.b)
 }
 
-fn zero_lower(x: Interval) -> bool
+fn zero_lower(x: EndPair) -> bool
     requires { ⌜ Proper binary64 (pairOf x) ⌝ }
     ensures { λ r. ⌜ Answers (ZeroLower (setOf binary64 (pairOf x))) r ⌝ }
 {
-    same_end(x.a, ZERO)
+    same_end(x.a, PLUS_ZERO)
 }
 
 // The test for each function, of the operand `x` and the result `z`.
-pub fn jumps(f: Function, x: Interval, z: Interval) -> bool
+pub fn jumps(f: Function, x: EndPair, z: EndPair) -> bool
     requires { ⌜ Proper binary64 (pairOf x) × Proper binary64 (pairOf z) ⌝ }
     ensures { λ r. ⌜ Answers (DacTest (operation f) (setOf binary64 (pairOf x)) (setOf binary64 (pairOf z))) r ⌝ }
 {

@@ -1,4 +1,4 @@
-// The functions whose results are whole numbers, on bare intervals that were judged already.
+// The functions whose results are whole numbers, on bare intervals, by their ends, which were judged already.
 mod decoration;
 mod ends;
 mod image;

@@ -1,5 +1,5 @@
 -- From the steps of reading to the statements of what is read.
-use mathlib.Core.Path.{_≡_, subst}
+use mathlib.Core.Path.{_≡_, subst, subst⁻¹}
 use mathlib.Core.List.{List}
 use mathlib.Core.Logic.{inl, inr}
 use Prim.Native.Nat.{ℕ}
@@ -8,8 +8,8 @@ use Rattle.meaning.specs.Pairs.{Pair, Canonical, NaNs}
 use Rattle.meaning.specs.Decorations as meant
 use Rattle.meaning.specs.Statement.{Outcome, wrong, Answered₁, first₁, right₁, DecPair, Ends, JudgedDecorated, decoratedFive, decoratedSix}
 use Rattle.meaning.specs.Bytes.{ByteOrder, readPair, SaysDecoration, BytesEnds, canonicalEnds, nanEnds, JudgedDecBytes, decBytesFive, decBytesSix, decBytesGood, ReadDecorated, readNaI, readInterval}
-use Rattle.interval.specs.Conversions.{decorationOf}
-use Rattle.interval.specs.declared.types.Decoration.{Decoration}
+use Rattle.decorations.specs.Conversions.{decorationOf}
+use Rattle.decorations.specs.declared.types.Decoration.{Decoration}
 use Rattle.interchange.specs.Reading.{SaidBy, says, saysNone, JudgedRead, readFive, readSix, readGood, ReadAs, asNaI, asItself}
 use Rattle.interchange.specs.declared.decorated.ByteDecoration.{ByteDecoration}
 
@@ -44,7 +44,7 @@ module _ {F : Format} where
   only-nans n (canonicalEnds k) = absurd (n k)
   only-nans n (nanEnds m) = m
 
-  bytes-ends : {p : Pair} → BytesEnds F p → Ends F p
+  pub bytes-ends : {p : Pair} → BytesEnds F p → Ends F p
   bytes-ends (canonicalEnds k) = inl (k .bare)
   bytes-ends (nanEnds n) = inr n
 
@@ -53,11 +53,22 @@ module _ {F : Format} where
   wrong-read b (decoratedFive n) = absurd (n (bytes-ends b))
   wrong-read b (decoratedSix e a) = readSix b a
 
+  -- Ends that are no NaNs are read as they are.
+  pub as-itself : {p q : Pair} {d : meant.Decoration} → q ≡ p → (NaNs F p → ⊥)
+      → ReadAs F (record { pair = p; decoration = d }) (record { pair = q; decoration = d })
+  as-itself {p} {q} {d} e n =
+      subst⁻¹ (λ (r : Pair). ReadAs F (record { pair = p; decoration = d }) (record { pair = r; decoration = d })) e (asItself n)
+
   -- What is read of the ends and a decoration that the bytes say is read of the bytes.
-  pub read-known : {o : ByteOrder} {bs : List ℕ} {d : meant.Decoration} {out : Outcome DecPair} → SaysDecoration bs d
-      → Answered₁ (JudgedRead F) (ReadAs F) (record { pair = readPair o bs; decoration = d }) out
+  pub read-known : {o : ByteOrder} {bs : List ℕ} {p : Pair} {d : meant.Decoration} {out : Outcome DecPair} → SaysDecoration bs d
+      → p ≡ readPair o bs → Answered₁ (JudgedRead F) (ReadAs F) (record { pair = p; decoration = d }) out
       → Answered₁ (JudgedDecBytes F o) (ReadDecorated F o) bs out
-  read-known {d = d} s (first₁ (readFive n)) = first₁ (decBytesFive d s n)
-  read-known {d = d} s (first₁ (readSix b a)) = first₁ (decBytesSix d s b a)
-  read-known {d = d} s (right₁ (readGood b a) (asNaI n)) = right₁ (decBytesGood d s b a) (readNaI n)
-  read-known {d = d} s (right₁ (readGood b a) (asItself n)) = right₁ (decBytesGood d s b a) (readInterval d s n)
+  read-known {o} {bs} {p} {d} {out} s e a =
+      go (subst (λ (q : Pair). Answered₁ (JudgedRead F) (ReadAs F) (record { pair = q; decoration = d }) out) e a)
+    where
+      go : {out : Outcome DecPair} → Answered₁ (JudgedRead F) (ReadAs F) (record { pair = readPair o bs; decoration = d }) out
+          → Answered₁ (JudgedDecBytes F o) (ReadDecorated F o) bs out
+      go (first₁ (readFive n)) = first₁ (decBytesFive d s n)
+      go (first₁ (readSix b a)) = first₁ (decBytesSix d s b a)
+      go (right₁ (readGood b a) (asNaI n)) = right₁ (decBytesGood d s b a) (readNaI n)
+      go (right₁ (readGood b a) (asItself n)) = right₁ (decBytesGood d s b a) (readInterval d s n)

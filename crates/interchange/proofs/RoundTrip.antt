@@ -15,14 +15,14 @@ use Rattle.meaning.specs.Pairs.{Pair, NaN, NaNs, Bare, Canonical}
 use Rattle.meaning.specs.Decorations.{Decoration, Ill, decorationByte}
 use Rattle.meaning.specs.Statement.{sound, given, Answered₁, right₁, DecPair, naI, Agrees, JudgedDecorated}
 use Rattle.meaning.specs.Bytes.{ByteOrder, readPair, writePair, JudgedBytes, bytesGood, SaysDecoration, BytesEnds, canonicalEnds, nanEnds, JudgedDecBytes, decBytesGood, ReadDecorated, readNaI, readInterval, Tidied, writeDecorated}
-use Rattle.interval.specs.Tidy.{tidyLower, tidyUpper}
-use Rattle.interval.specs.Values.{TidiedDec, tidiedNaI, tidiedInterval}
-use Rattle.interval.proofs.JudgeLaws.{lower-pattern, upper-pattern}
-use Rattle.interval.proofs.AgreeLaws.{agrees-nans, bare-not-nans, only-bare}
-use Rattle.interval.proofs.TidyLaws.{tidied, tidied-agrees}
-use Rattle.interval.proofs.StatementLaws.{sound-ends, sound-agrees}
 use Rattle.states.proofs.ReadingLaws.{tidied-once}
-use Rattle.interval.proofs.Once.{tidiedDec-once}
+use Rattle.end_pairs.specs.Zeros.{canonicalPair}
+use Rattle.end_pairs.proofs.TestLaws.{lower-pattern, upper-pattern}
+use Rattle.end_pairs.proofs.KindLaws.{bare-not-nans, only-bare}
+use Rattle.end_pairs.proofs.ZeroLaws.{tidied}
+use Rattle.decorations.proofs.AgreeLaws.{agrees-nans, canonical-agrees, sound-ends, sound-agrees}
+use Rattle.dec_interval.specs.Values.{TidiedDec, tidiedNaI, tidiedInterval}
+use Rattle.dec_interval.proofs.Once.{tidiedDec-once}
 use Rattle.end_bytes.proofs.PlaceLaws.{length-pair}
 use Rattle.end_bytes.proofs.DigitLaws.{Bytes, pair-read, pair-written}
 use Rattle.interchange.specs.Written.{WrittenBare, WrittenDec}
@@ -137,15 +137,12 @@ module _ (F : Format) (eight : 2 * signBit F ≤ 256 ^ 8) (o : ByteOrder) where
       says : SaysDecoration bs (z .decoration)
       says = says-back z l u e
 
-      tidy : Pair
-      tidy = record { lower = tidyLower F (x .pair .lower); upper = tidyUpper F (x .pair .upper) }
-
-      same : readPair o bs ≡ tidy
-      same = ends ∙ tidied-once F (x .pair) (z .pair) tidy t (tidied F (x .pair) bare)
+      same : readPair o bs ≡ canonicalPair F (x .pair)
+      same = ends ∙ tidied-once F (x .pair) (z .pair) (canonicalPair F (x .pair)) t (tidied F (x .pair) bare)
 
       agrees-back : Agrees F (record { pair = readPair o bs; decoration = z .decoration })
       agrees-back =
-          subst⁻¹ (λ (y : DecPair). Agrees F y) (λ i. record { pair = same i; decoration = d i }) (tidied-agrees F x bare agrees)
+          subst⁻¹ (λ (y : DecPair). Agrees F y) (λ i. record { pair = same i; decoration = d i }) (canonical-agrees F x bare agrees)
 
   pub dec-written-read : {x : DecPair} {bs : List ℕ} → JudgedDecorated F x sound → (t : WrittenDec F o x bs)
       → Answered₁ (JudgedDecBytes F o) (ReadDecorated F o) bs (given (t .answer))

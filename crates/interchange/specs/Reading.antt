@@ -6,8 +6,8 @@ use Rattle.meaning.specs.Pairs.{NaNs}
 use Rattle.meaning.specs.Decorations as meant
 use Rattle.meaning.specs.Statement.{Verdict, sound, wrong, DecPair, naI, Agrees}
 use Rattle.meaning.specs.Bytes.{BytesEnds}
-use Rattle.interval.specs.Conversions.{decorationOf}
-use Rattle.interval.specs.declared.types.Decoration.{Decoration}
+use Rattle.decorations.specs.Conversions.{decorationOf}
+use Rattle.decorations.specs.declared.types.Decoration.{Decoration}
 use Rattle.interchange.specs.declared.decorated.ByteDecoration.{ByteDecoration}
 
 -- What a seventeenth byte says.

@@ -7,7 +7,7 @@ use Rattle.patterns.specs.Format.{Format}
 use Rattle.meaning.specs.Pairs.{Pair}
 use Rattle.meaning.specs.Statement.{Outcome, refused, given, Verdict, Answered₁, DecPair}
 use Rattle.meaning.specs.Bytes.{ByteOrder, writePair, writeDecorated, Written, Tidied}
-use Rattle.interval.specs.Values.{TidiedDec}
+use Rattle.dec_interval.specs.Values.{TidiedDec}
 use Rattle.interchange.specs.declared.bare.BytesAnswer.{BytesAnswer}
 use Rattle.interchange.specs.declared.decorated.DecBytesAnswer.{DecBytesAnswer}
 

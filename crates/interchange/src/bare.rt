@@ -10,6 +10,7 @@ use crate::canonical::is_canonical;
 use end_bytes::ByteOrder;
 use end_bytes::read_ends;
 use end_bytes::write_ends;
+use end_pairs::canonical;
 use interval::ACCEPTED;
 use interval::Answer;
 use interval::BAD_ENDS;
@@ -18,7 +19,6 @@ use interval::Interval;
 use interval::NO_PLACE;
 use interval::Verdict;
 use interval::judge;
-use interval::tidy;
 
 // Sixteen bytes with number 0, or a refusal's number and place with zero bytes.
 pub struct BytesAnswer {
@@ -31,9 +31,9 @@ pub struct BytesAnswer {
 fn read(bytes: [u8; 16], order: ByteOrder) -> Answer
     ensures { λ r. ⌜ Answered₁ (JudgedBytes binary64 (orderOf order)) (λ bs z. z ≡ readPair (orderOf order) bs) bytes (outcome r) ⌝ }
 {
-    let x = read_ends(&bytes, order);
-    if is_canonical(x) {
-        return Answer::Given(x);
+    let ends = read_ends(&bytes, order);
+    if is_canonical(ends) {
+        return Answer::Given(Interval::from_ends(ends));
     }
     Answer::Refused(BAD_ENDS, FIRST)
 }
@@ -45,7 +45,7 @@ fn write(x: Interval, order: ByteOrder) -> BytesAnswer
     match judge(x) {
         Verdict::Sound => {
             let mut bytes = [0u8; 16];
-            write_ends(&mut bytes, tidy(x), order);
+            write_ends(&mut bytes, canonical(x.ends), order);
             BytesAnswer {
                 number: ACCEPTED,
                 place: NO_PLACE,

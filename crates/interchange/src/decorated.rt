@@ -1,34 +1,37 @@
 // Decorated intervals as seventeen bytes: those of the bare interval, and one for the decoration.
-ghost use mathlib.Core.Path.{_≡_};
 ghost use Rattle.patterns.specs.Format.{binary64};
 ghost use Rattle.meaning.specs.Statement.{Answered₁, JudgedDecorated};
-ghost use Rattle.meaning.specs.Bytes.{bigEndian, littleEndian, readPair, JudgedDecBytes, ReadDecorated};
-ghost use Rattle.interval.specs.Conversions.{decorationOf, decPairOf, decOutcome};
+ghost use Rattle.meaning.specs.Bytes.{bigEndian, littleEndian, BytesEnds, JudgedDecBytes, ReadDecorated};
+ghost use Rattle.decorations.specs.Conversions.{decorationOf};
+ghost use Rattle.dec_interval.specs.Conversions.{decPairOf, decOutcome};
+ghost use Rattle.end_pairs.specs.Conversions.{pairOf};
 ghost use Rattle.end_bytes.specs.Conversions.{orderOf};
 ghost use Rattle.interchange.specs.Reading.{SaidBy, JudgedRead, ReadAs};
 ghost use Rattle.interchange.specs.Written.{AnsweredBy, WrittenDec, decBytesAnswerOf};
 use crate::canonical::has_bytes_ends;
+use dec_interval::DecAnswer;
+use dec_interval::DecInterval;
+use dec_interval::canonical_dec;
+use decorations::COM_BYTE;
+use decorations::DAC_BYTE;
+use decorations::DEF_BYTE;
+use decorations::Decoration;
+use decorations::ILL_BYTE;
+use decorations::TRV_BYTE;
+use decorations::decoration_byte;
+use decorations::judge_dec;
 use end_bytes::ByteOrder;
 use end_bytes::read_ends;
 use end_bytes::write_ends;
+use end_pairs::EndPair;
+use end_pairs::are_nans;
 use interval::ACCEPTED;
 use interval::BAD_BYTE;
 use interval::BAD_ENDS;
-use interval::COM_BYTE;
-use interval::DAC_BYTE;
-use interval::DEF_BYTE;
-use interval::DecAnswer;
-use interval::DecInterval;
-use interval::Decoration;
 use interval::FIRST;
-use interval::ILL_BYTE;
+use interval::Interval;
 use interval::NO_PLACE;
-use interval::TRV_BYTE;
 use interval::Verdict;
-use interval::are_nans;
-use interval::decoration_byte;
-use interval::judge_dec;
-use interval::tidy_dec;
 
 // Seventeen bytes with number 0, or a refusal's number and place with zero bytes.
 pub struct DecBytesAnswer {
@@ -61,34 +64,30 @@ pub fn decoration_of(b: u8) -> ByteDecoration
 }
 
 // NaI with the NaNs that are written; any other value as it is.
-fn read_as(x: DecInterval) -> DecInterval
-    ensures { λ r. ⌜ ReadAs binary64 (decPairOf x) (decPairOf r) ⌝ }
+fn read_as(ends: EndPair, d: Decoration) -> DecInterval
+    requires { ⌜ BytesEnds binary64 (pairOf ends) ⌝ }
+    ensures { λ r. ⌜ ReadAs binary64 (record { pair = pairOf ends; decoration = decorationOf d }) (decPairOf r) ⌝ }
 {
-    if are_nans(x.x) {
+    if are_nans(ends) {
         return DecInterval::NAI;
     }
-    x
+    DecInterval {
+        x: Interval::from_ends(ends),
+        d,
+    }
 }
 
 // The ends and the decoration that were read, judged and answered.
-fn answer_read(x: DecInterval) -> DecAnswer
-    ensures { λ r. ⌜ Answered₁ (JudgedRead binary64) (ReadAs binary64) (decPairOf x) (decOutcome r) ⌝ }
+fn answer_read(ends: EndPair, d: Decoration) -> DecAnswer
+    ensures { λ r. ⌜ Answered₁ (JudgedRead binary64) (ReadAs binary64) (record { pair = pairOf ends; decoration = decorationOf d }) (decOutcome r) ⌝ }
 {
-    if !has_bytes_ends(x.x) {
+    if !has_bytes_ends(ends) {
         return DecAnswer::Refused(BAD_ENDS, FIRST);
     }
-    match judge_dec(x) {
-        Verdict::Sound => DecAnswer::Given(read_as(x)),
+    match judge_dec(ends, d) {
+        Verdict::Sound => DecAnswer::Given(read_as(ends, d)),
         Verdict::Wrong(n) => DecAnswer::Refused(n, FIRST),
     }
-}
-
-// The ends that the bytes stand for, with a decoration.
-fn read_with(bytes: [u8; 17], d: Decoration, order: ByteOrder) -> DecInterval
-    ensures { λ r. ⌜ decPairOf r ≡ record { pair = readPair (orderOf order) bytes; decoration = decorationOf d } ⌝ }
-{
-    let x = read_ends(&bytes, order);
-    DecInterval { x, d }
 }
 
 // What bytes of either order stand for.
@@ -96,7 +95,7 @@ fn read(bytes: [u8; 17], order: ByteOrder) -> DecAnswer
     ensures { λ r. ⌜ Answered₁ (JudgedDecBytes binary64 (orderOf order)) (ReadDecorated binary64 (orderOf order)) bytes (decOutcome r) ⌝ }
 {
     match decoration_of(bytes[DECORATION_AT]) {
-        ByteDecoration::Known(d) => answer_read(read_with(bytes, d, order)),
+        ByteDecoration::Known(d) => answer_read(read_ends(&bytes, order), d),
         ByteDecoration::Unknown => DecAnswer::Refused(BAD_BYTE, FIRST),
     }
 }
@@ -105,10 +104,11 @@ fn read(bytes: [u8; 17], order: ByteOrder) -> DecAnswer
 fn write(x: DecInterval, order: ByteOrder) -> DecBytesAnswer
     ensures { λ r. ⌜ AnsweredBy decBytesAnswerOf (JudgedDecorated binary64) (WrittenDec binary64 (orderOf order)) (decPairOf x) r ⌝ }
 {
-    match judge_dec(x) {
+    let given = x.d;
+    match judge_dec(x.x.ends, given) {
         Verdict::Sound => {
-            let z = tidy_dec(x);
-            let ends = z.x;
+            let z = canonical_dec(x.x.ends, given);
+            let ends = z.x.ends;
             let d = z.d;
             let mut bytes = [0u8; 17];
             write_ends(&mut bytes, ends, order);

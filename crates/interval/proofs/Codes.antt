@@ -3,66 +3,32 @@ use mathlib.Core.Bool.{Bool}
 use mathlib.Core.Path.{_≡_, refl, sym, _∙_, ap}
 use Prim.Native.Nat.{ℕ}
 use Rattle.meaning.specs.Pairs.{Pair}
-use Rattle.meaning.specs.Decorations as meant
-use Rattle.meaning.specs.Statement.{DecPair, Outcome, refused, given}
-use Rattle.interval.specs.Conversions.{decorationOf, decPairOf, outcome, decOutcome, boolOutcome, endOutcome, decorationOutcome, partOutcome}
-use Rattle.interval.specs.Values.{Part, part, noPart}
+use Rattle.meaning.specs.Classes.{Class}
+use Rattle.meaning.specs.Statement.{Outcome, refused, given}
+use Rattle.classify.proofs.ClassOnce.{codeOf, code-back}
+use Rattle.interval.specs.Conversions.{outcome, boolOutcome, endOutcome, classOutcome}
 use Rattle.interval.specs.declared.types.Interval.{Interval}
-use Rattle.interval.specs.declared.types.DecInterval.{DecInterval}
-use Rattle.interval.specs.declared.types.Decoration.{Decoration}
 use Rattle.interval.specs.declared.answers.Answer.{Answer}
-use Rattle.interval.specs.declared.answers.DecAnswer.{DecAnswer}
 use Rattle.interval.specs.declared.answers.BoolAnswer.{BoolAnswer}
 use Rattle.interval.specs.declared.answers.EndAnswer.{EndAnswer}
-use Rattle.interval.specs.declared.answers.DecorationAnswer.{DecorationAnswer}
-use Rattle.interval.specs.declared.answers.PartAnswer.{PartAnswer}
+use Rattle.interval.specs.declared.answers.ClassAnswer.{ClassAnswer}
 
 -- What has a left inverse tells its arguments apart.
 pub injective : {A B : Type 0} {f : A → B} (g : B → A) → ((a : A) → g (f a) ≡ a) → {a b : A} → f a ≡ f b → a ≡ b
 injective g back {a} {b} e = sym (back a) ∙ ap g e ∙ back b
 
-intervalOf : Pair → Interval
-intervalOf p = record { a = p .lower; b = p .upper }
-
-codeOf : meant.Decoration → Decoration
-codeOf meant.Ill = Decoration.Ill
-codeOf meant.Trv = Decoration.Trv
-codeOf meant.Def = Decoration.Def
-codeOf meant.Dac = Decoration.Dac
-codeOf meant.Com = Decoration.Com
-
-code-back : (d : Decoration) → codeOf (decorationOf d) ≡ d
-unfolding codeOf
-code-back Decoration.Ill = refl
-code-back Decoration.Trv = refl
-code-back Decoration.Def = refl
-code-back Decoration.Dac = refl
-code-back Decoration.Com = refl
-
-decIntervalOf : DecPair → DecInterval
-decIntervalOf x = record { x = intervalOf (x .pair); d = codeOf (x .decoration) }
-
-dec-back : (x : DecInterval) → decIntervalOf (decPairOf x) ≡ x
-unfolding intervalOf decIntervalOf
-dec-back x = λ i. record { x = x .x; d = code-back (x .d) i }
+-- The interval with two ends.
+abbrev pub intervalOf : Pair → Interval
+intervalOf p = record { ends = record { a = p .lower; b = p .upper } }
 
 answerOf : Outcome Pair → Answer
 answerOf (given p) = Answer.Given (intervalOf p)
 answerOf (refused n p) = Answer.Refused n p
 
 answer-back : (r : Answer) → answerOf (outcome r) ≡ r
-unfolding intervalOf answerOf
+unfolding answerOf
 answer-back (Answer.Given x) = refl
 answer-back (Answer.Refused n p) = refl
-
-decAnswerOf : Outcome DecPair → DecAnswer
-decAnswerOf (given x) = DecAnswer.Given (decIntervalOf x)
-decAnswerOf (refused n p) = DecAnswer.Refused n p
-
-decAnswer-back : (r : DecAnswer) → decAnswerOf (decOutcome r) ≡ r
-unfolding decAnswerOf
-decAnswer-back (DecAnswer.Given x) = ap DecAnswer.Given (dec-back x)
-decAnswer-back (DecAnswer.Refused n p) = refl
 
 boolAnswerOf : Outcome Bool → BoolAnswer
 boolAnswerOf (given b) = BoolAnswer.Given b
@@ -82,32 +48,18 @@ unfolding endAnswerOf
 endAnswer-back (EndAnswer.Given e) = refl
 endAnswer-back (EndAnswer.Refused n p) = refl
 
-decorationAnswerOf : Outcome meant.Decoration → DecorationAnswer
-decorationAnswerOf (given d) = DecorationAnswer.Given (codeOf d)
-decorationAnswerOf (refused n p) = DecorationAnswer.Refused n p
+classAnswerOf : Outcome Class → ClassAnswer
+classAnswerOf (given c) = ClassAnswer.Given (codeOf c)
+classAnswerOf (refused n p) = ClassAnswer.Refused n p
 
-decorationAnswer-back : (r : DecorationAnswer) → decorationAnswerOf (decorationOutcome r) ≡ r
-unfolding decorationAnswerOf
-decorationAnswer-back (DecorationAnswer.Given d) = ap DecorationAnswer.Given (code-back d)
-decorationAnswer-back (DecorationAnswer.Refused n p) = refl
-
-partAnswerOf : Outcome Part → PartAnswer
-partAnswerOf (given (part p)) = PartAnswer.Given (intervalOf p)
-partAnswerOf (given noPart) = PartAnswer.Missing
-partAnswerOf (refused n p) = PartAnswer.Refused n p
-
-partAnswer-back : (r : PartAnswer) → partAnswerOf (partOutcome r) ≡ r
-unfolding intervalOf partAnswerOf
-partAnswer-back (PartAnswer.Given x) = refl
-partAnswer-back PartAnswer.Missing = refl
-partAnswer-back (PartAnswer.Refused n p) = refl
+classAnswer-back : (r : ClassAnswer) → classAnswerOf (classOutcome r) ≡ r
+unfolding classAnswerOf
+classAnswer-back (ClassAnswer.Given c) = ap ClassAnswer.Given (code-back c)
+classAnswer-back (ClassAnswer.Refused n p) = refl
 
 -- Two answers with the same outcome are equal.
 pub answer-known : {r s : Answer} → outcome r ≡ outcome s → r ≡ s
 answer-known = injective answerOf answer-back
-
-pub decAnswer-known : {r s : DecAnswer} → decOutcome r ≡ decOutcome s → r ≡ s
-decAnswer-known = injective decAnswerOf decAnswer-back
 
 pub boolAnswer-known : {r s : BoolAnswer} → boolOutcome r ≡ boolOutcome s → r ≡ s
 boolAnswer-known = injective boolAnswerOf boolAnswer-back
@@ -115,8 +67,5 @@ boolAnswer-known = injective boolAnswerOf boolAnswer-back
 pub endAnswer-known : {r s : EndAnswer} → endOutcome r ≡ endOutcome s → r ≡ s
 endAnswer-known = injective endAnswerOf endAnswer-back
 
-pub decorationAnswer-known : {r s : DecorationAnswer} → decorationOutcome r ≡ decorationOutcome s → r ≡ s
-decorationAnswer-known = injective decorationAnswerOf decorationAnswer-back
-
-pub partAnswer-known : {r s : PartAnswer} → partOutcome r ≡ partOutcome s → r ≡ s
-partAnswer-known = injective partAnswerOf partAnswer-back
+pub classAnswer-known : {r s : ClassAnswer} → classOutcome r ≡ classOutcome s → r ≡ s
+classAnswer-known = injective classAnswerOf classAnswer-back

@@ -1,12 +1,5 @@
--- Laws of keys, pairs and decorations.
-pub mod KeyLaws
-pub mod JudgeLaws
-pub mod AgreeLaws
-pub mod TidyLaws
-pub mod Shapes
-pub mod DecorationLaws
+-- From judgements to statements, and the one answer of each.
 pub mod StatementLaws
-pub mod PartLaws
 pub mod Codes
 pub mod Once
 pub mod OneAnswer

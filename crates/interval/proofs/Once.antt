@@ -1,52 +1,13 @@
 -- Each statement of this crate has one right answer.
-use mathlib.Core.Bool.{Bool}
-use mathlib.Core.Path.{_≡_, refl, sym, _∙_, ap}
+use mathlib.Core.Path.{_≡_, sym, _∙_, ap}
 use Prim.Native.Nat.{ℕ}
 use Rattle.patterns.specs.Format.{Format}
 use Rattle.meaning.specs.Pairs.{Pair}
-use Rattle.meaning.specs.Decorations.{Decoration}
-use Rattle.meaning.specs.Statement.{DecPair}
 use Rattle.states.proofs.ReadingLaws.{tidied-once}
-use Rattle.flags.specs.Answers.{Answers, affirmed, denied}
-use Rattle.interval.specs.Values.{TidiedDec, tidiedNaI, tidiedInterval, SetDec, setNaI, setInterval, LowerOf, UpperOf, Part, PartOf, isPart, isMissing, DecEndOf, nanEnd, partEnd}
-
-pub answers-once : (P : Type 0) (b c : Bool) → Answers P b → Answers P c → b ≡ c
-answers-once P b c (affirmed p) (affirmed q) = refl
-answers-once P b c (affirmed p) (denied n) = absurd (n p)
-answers-once P b c (denied n) (affirmed p) = absurd (n p)
-answers-once P b c (denied n) (denied m) = refl
+use Rattle.interval.specs.Values.{LowerOf, UpperOf}
 
 pub lower-once : (F : Format) (x : Pair) (r s : ℕ) → LowerOf F x r → LowerOf F x s → r ≡ s
 lower-once F x r s p q = p .lower ∙ ap (λ (z : Pair). z .lower) (tidied-once F x (p .tidied) (q .tidied) (p .is) (q .is)) ∙ sym (q .lower)
 
 pub upper-once : (F : Format) (x : Pair) (r s : ℕ) → UpperOf F x r → UpperOf F x s → r ≡ s
 upper-once F x r s p q = p .upper ∙ ap (λ (z : Pair). z .upper) (tidied-once F x (p .tidied) (q .tidied) (p .is) (q .is)) ∙ sym (q .upper)
-
-dec-pair : {z w : DecPair} → z .pair ≡ w .pair → z .decoration ≡ w .decoration → z ≡ w
-dec-pair p d = λ i. record { pair = p i; decoration = d i }
-
-pub tidiedDec-once : (F : Format) (x z w : DecPair) → TidiedDec F x z → TidiedDec F x w → z ≡ w
-tidiedDec-once F x z w (tidiedNaI n) (tidiedNaI m) = refl
-tidiedDec-once F x z w (tidiedNaI n) (tidiedInterval m t d) = absurd (m n)
-tidiedDec-once F x z w (tidiedInterval m t d) (tidiedNaI n) = absurd (m n)
-tidiedDec-once F x z w (tidiedInterval n s c) (tidiedInterval m t d) =
-    dec-pair (tidied-once F (x .pair) (z .pair) (w .pair) s t) (c ∙ sym d)
-
-pub setDec-once : (F : Format) (d : Decoration) (x : Pair) (z w : DecPair) → SetDec F d x z → SetDec F d x w → z ≡ w
-setDec-once F d x z w (setNaI e) (setNaI f) = refl
-setDec-once F d x z w (setNaI e) (setInterval n t b) = absurd (n e)
-setDec-once F d x z w (setInterval n t b) (setNaI e) = absurd (n e)
-setDec-once F d x z w (setInterval n s a) (setInterval m t b) = dec-pair (tidied-once F x (z .pair) (w .pair) s t) (a ∙ sym b)
-
-pub part-once : (F : Format) (x : DecPair) (z w : Part) → PartOf F x z → PartOf F x w → z ≡ w
-part-once F x z w (isMissing n) (isMissing m) = refl
-part-once F x z w (isMissing n) (isPart m t) = absurd (m n)
-part-once F x z w (isPart m t) (isMissing n) = absurd (m n)
-part-once F x z w (isPart {p} n s) (isPart {p = q} m t) = ap Part.part (tidied-once F (x .pair) p q s t)
-
-pub decEnd-once : (F : Format) (EndOf : Pair → ℕ → Type 0) → ((x : Pair) (r s : ℕ) → EndOf x r → EndOf x s → r ≡ s)
-    → (x : DecPair) (r s : ℕ) → DecEndOf F EndOf x r → DecEndOf F EndOf x s → r ≡ s
-decEnd-once F EndOf once x r s (nanEnd n) (nanEnd m) = refl
-decEnd-once F EndOf once x r s (nanEnd n) (partEnd m e) = absurd (m n)
-decEnd-once F EndOf once x r s (partEnd m e) (nanEnd n) = absurd (m n)
-decEnd-once F EndOf once x r s (partEnd n d) (partEnd m e) = once (x .pair) r s d e

@@ -4,7 +4,7 @@ use Prim.Native.Nat.{ℕ}
 use Rattle.patterns.specs.Format.{Format}
 use Rattle.meaning.specs.Pairs.{Pair, Bare}
 use Rattle.meaning.specs.Statement as stated
-use Rattle.meaning.specs.Statement.{sound, wrong, refused, Answered₁, first₁, JudgedBare, bareGood, DecPair, Ends, Agrees, JudgedDecorated, decoratedGood}
+use Rattle.meaning.specs.Statement.{sound, wrong, refused, Answered₁, first₁, JudgedBare, bareGood}
 use Rattle.interval.specs.Conversions.{verdictOf}
 use Rattle.interval.specs.declared.answers.Verdict.{Verdict}
 
@@ -20,9 +20,3 @@ module _ {A : Type 0} (Judged : A → stated.Verdict → Type 0) {x : A} {v : Ve
 
 pub sound-bare : {F : Format} {x : Pair} → JudgedBare F x sound → Bare F x
 sound-bare (bareGood b) = b
-
-pub sound-ends : {F : Format} {x : DecPair} → JudgedDecorated F x sound → Ends F (x .pair)
-sound-ends (decoratedGood e a) = e
-
-pub sound-agrees : {F : Format} {x : DecPair} → JudgedDecorated F x sound → Agrees F x
-sound-agrees (decoratedGood e a) = a

@@ -3,33 +3,20 @@
 use mathlib.Core.Bool.{Bool}
 use Prim.Native.Nat.{ℕ}
 use Rattle.meaning.specs.Pairs.{Pair}
-use Rattle.meaning.specs.Decorations as meant
+use Rattle.meaning.specs.Classes.{Class}
 use Rattle.meaning.specs.Statement as stated
-use Rattle.meaning.specs.Statement.{DecPair, Outcome, refused, given}
-use Rattle.interval.specs.Values.{Part, part, noPart}
+use Rattle.meaning.specs.Statement.{Outcome, refused, given}
+use Rattle.end_pairs.specs.Conversions as two
+use Rattle.classify.specs.Conversions.{classOf}
 use Rattle.interval.specs.declared.types.Interval.{Interval}
-use Rattle.interval.specs.declared.types.DecInterval.{DecInterval}
-use Rattle.interval.specs.declared.types.Decoration.{Decoration}
 use Rattle.interval.specs.declared.answers.Verdict.{Verdict}
 use Rattle.interval.specs.declared.answers.Answer.{Answer}
-use Rattle.interval.specs.declared.answers.DecAnswer.{DecAnswer}
 use Rattle.interval.specs.declared.answers.BoolAnswer.{BoolAnswer}
 use Rattle.interval.specs.declared.answers.EndAnswer.{EndAnswer}
-use Rattle.interval.specs.declared.answers.DecorationAnswer.{DecorationAnswer}
-use Rattle.interval.specs.declared.answers.PartAnswer.{PartAnswer}
+use Rattle.interval.specs.declared.answers.ClassAnswer.{ClassAnswer}
 
 abbrev pub pairOf : Interval → Pair
-pairOf x = record { lower = x .a; upper = x .b }
-
-abbrev pub decorationOf : Decoration → meant.Decoration
-decorationOf Decoration.Ill = meant.Ill
-decorationOf Decoration.Trv = meant.Trv
-decorationOf Decoration.Def = meant.Def
-decorationOf Decoration.Dac = meant.Dac
-decorationOf Decoration.Com = meant.Com
-
-abbrev pub decPairOf : DecInterval → DecPair
-decPairOf x = record { pair = pairOf (x .x); decoration = decorationOf (x .d) }
+pairOf x = two.pairOf (x .ends)
 
 abbrev pub verdictOf : Verdict → stated.Verdict
 verdictOf Verdict.Sound = stated.sound
@@ -39,10 +26,6 @@ abbrev pub outcome : Answer → Outcome Pair
 outcome (Answer.Given x) = given (pairOf x)
 outcome (Answer.Refused n p) = refused n p
 
-abbrev pub decOutcome : DecAnswer → Outcome DecPair
-decOutcome (DecAnswer.Given x) = given (decPairOf x)
-decOutcome (DecAnswer.Refused n p) = refused n p
-
 abbrev pub boolOutcome : BoolAnswer → Outcome Bool
 boolOutcome (BoolAnswer.Given b) = given b
 boolOutcome (BoolAnswer.Refused n p) = refused n p
@@ -51,11 +34,6 @@ abbrev pub endOutcome : EndAnswer → Outcome ℕ
 endOutcome (EndAnswer.Given e) = given e
 endOutcome (EndAnswer.Refused n p) = refused n p
 
-abbrev pub decorationOutcome : DecorationAnswer → Outcome meant.Decoration
-decorationOutcome (DecorationAnswer.Given d) = given (decorationOf d)
-decorationOutcome (DecorationAnswer.Refused n p) = refused n p
-
-abbrev pub partOutcome : PartAnswer → Outcome Part
-partOutcome (PartAnswer.Given x) = given (part (pairOf x))
-partOutcome PartAnswer.Missing = given noPart
-partOutcome (PartAnswer.Refused n p) = refused n p
+abbrev pub classOutcome : ClassAnswer → Outcome Class
+classOutcome (ClassAnswer.Given c) = given (classOf c)
+classOutcome (ClassAnswer.Refused n p) = refused n p

@@ -1,5 +1,3 @@
--- What the contracts of intervals cite.
+-- What the contracts of bare intervals cite.
 pub mod Conversions
-pub mod Keys
-pub mod Tidy
 pub mod Values

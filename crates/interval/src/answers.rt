@@ -1,7 +1,6 @@
 // What a call answers: a value, or a refusal by its number and the operand's place.
-use crate::types::DecInterval;
-use crate::types::Decoration;
 use crate::types::Interval;
+use classify::IntervalClass;
 
 // The number of a call that is accepted.
 pub const ACCEPTED: u32 = 0;
@@ -29,11 +28,6 @@ pub enum Answer {
     Refused(u32, u32),
 }
 
-pub enum DecAnswer {
-    Given(DecInterval),
-    Refused(u32, u32),
-}
-
 pub enum BoolAnswer {
     Given(bool),
     Refused(u32, u32),
@@ -45,14 +39,7 @@ pub enum EndAnswer {
     Refused(u32, u32),
 }
 
-pub enum DecorationAnswer {
-    Given(Decoration),
-    Refused(u32, u32),
-}
-
-// The interval part of a decorated interval. NaI has none.
-pub enum PartAnswer {
-    Given(Interval),
-    Missing,
+pub enum ClassAnswer {
+    Given(IntervalClass),
     Refused(u32, u32),
 }

@@ -3,35 +3,41 @@ ghost use mathlib.Core.Path.{_≡_};
 ghost use Rattle.patterns.specs.Format.{binary64};
 ghost use Rattle.meaning.specs.Sets.{empty, span, unbounded};
 ghost use Rattle.meaning.specs.Pairs.{setOf};
-ghost use Rattle.meaning.specs.Decorations.{Point};
+ghost use Rattle.meaning.specs.Classes.{ClassOf};
+ghost use Rattle.meaning.specs.Decorations.{Common, Point};
 ghost use Rattle.meaning.specs.Statement.{Answered₁, JudgedBare};
 ghost use Rattle.meaning.specs.Bytes.{Tidied};
 ghost use Rattle.flags.specs.Answers.{Answers};
-ghost use Rattle.interval.specs.Conversions.{pairOf, outcome, boolOutcome, endOutcome};
-ghost use Rattle.interval.specs.Values.{LowerOf, UpperOf, Common};
+ghost use Rattle.interval.specs.Conversions.{pairOf, outcome, boolOutcome, endOutcome, classOutcome};
+ghost use Rattle.interval.specs.Values.{LowerOf, UpperOf};
 use crate::answers::Answer;
+use crate::answers::BAD_ENDS;
 use crate::answers::BoolAnswer;
+use crate::answers::ClassAnswer;
 use crate::answers::EndAnswer;
 use crate::answers::FIRST;
 use crate::answers::Verdict;
-use crate::sets::holds_all;
-use crate::sets::is_point;
+use crate::judging::judge;
 use crate::types::Interval;
-use crate::validity::is_bounded;
-use crate::validity::is_empty_pair;
-use crate::validity::judge;
-use crate::zeros::tidy;
+use classify::classify;
+use end_pairs::EndPair;
+use end_pairs::canonical;
+use end_pairs::holds_all;
+use end_pairs::is_bare;
+use end_pairs::is_bounded;
+use end_pairs::is_empty_pair;
+use end_pairs::is_point;
 
 impl Interval {
     // The interval [a, b], or EMPTY from EMPTY's ends.
     pub fn try_from(a: u64, b: u64) -> Answer
         ensures { λ r. ⌜ Answered₁ (JudgedBare binary64) (Tidied binary64) (record { lower = a; upper = b }) (outcome r) ⌝ }
     {
-        let x = Interval { a, b };
-        match judge(x) {
-            Verdict::Sound => Answer::Given(tidy(x)),
-            Verdict::Wrong(n) => Answer::Refused(n, FIRST),
+        let ends = EndPair { a, b };
+        if is_bare(ends) {
+            return Answer::Given(Interval::from_ends(canonical(ends)));
         }
+        Answer::Refused(BAD_ENDS, FIRST)
     }
 
     // The lower bound: -0.0 for a zero, and +inf of EMPTY.
@@ -39,7 +45,7 @@ impl Interval {
         ensures { λ r. ⌜ Answered₁ (JudgedBare binary64) (LowerOf binary64) (pairOf self) (endOutcome r) ⌝ }
     {
         match judge(self) {
-            Verdict::Sound => EndAnswer::Given(tidy(self).a),
+            Verdict::Sound => EndAnswer::Given(canonical(self.ends).a),
             Verdict::Wrong(n) => EndAnswer::Refused(n, FIRST),
         }
     }
@@ -49,7 +55,7 @@ impl Interval {
         ensures { λ r. ⌜ Answered₁ (JudgedBare binary64) (UpperOf binary64) (pairOf self) (endOutcome r) ⌝ }
     {
         match judge(self) {
-            Verdict::Sound => EndAnswer::Given(tidy(self).b),
+            Verdict::Sound => EndAnswer::Given(canonical(self.ends).b),
             Verdict::Wrong(n) => EndAnswer::Refused(n, FIRST),
         }
     }
@@ -59,7 +65,7 @@ impl Interval {
         ensures { λ r. ⌜ Answered₁ (JudgedBare binary64) (λ x. Answers (setOf binary64 x ≡ empty)) (pairOf self) (boolOutcome r) ⌝ }
     {
         match judge(self) {
-            Verdict::Sound => BoolAnswer::Given(is_empty_pair(self)),
+            Verdict::Sound => BoolAnswer::Given(is_empty_pair(self.ends)),
             Verdict::Wrong(n) => BoolAnswer::Refused(n, FIRST),
         }
     }
@@ -69,7 +75,7 @@ impl Interval {
         ensures { λ r. ⌜ Answered₁ (JudgedBare binary64) (λ x. Answers (setOf binary64 x ≡ span unbounded unbounded)) (pairOf self) (boolOutcome r) ⌝ }
     {
         match judge(self) {
-            Verdict::Sound => BoolAnswer::Given(holds_all(self)),
+            Verdict::Sound => BoolAnswer::Given(holds_all(self.ends)),
             Verdict::Wrong(n) => BoolAnswer::Refused(n, FIRST),
         }
     }
@@ -79,7 +85,7 @@ impl Interval {
         ensures { λ r. ⌜ Answered₁ (JudgedBare binary64) (λ x. Answers (Common (setOf binary64 x))) (pairOf self) (boolOutcome r) ⌝ }
     {
         match judge(self) {
-            Verdict::Sound => BoolAnswer::Given(is_bounded(self)),
+            Verdict::Sound => BoolAnswer::Given(is_bounded(self.ends)),
             Verdict::Wrong(n) => BoolAnswer::Refused(n, FIRST),
         }
     }
@@ -89,8 +95,18 @@ impl Interval {
         ensures { λ r. ⌜ Answered₁ (JudgedBare binary64) (λ x. Answers (Point (setOf binary64 x))) (pairOf self) (boolOutcome r) ⌝ }
     {
         match judge(self) {
-            Verdict::Sound => BoolAnswer::Given(is_point(self)),
+            Verdict::Sound => BoolAnswer::Given(is_point(self.ends)),
             Verdict::Wrong(n) => BoolAnswer::Refused(n, FIRST),
+        }
+    }
+
+    // The class of the interval by the signs of its ends.
+    pub fn classify(self) -> ClassAnswer
+        ensures { λ r. ⌜ Answered₁ (JudgedBare binary64) (λ x. ClassOf (setOf binary64 x)) (pairOf self) (classOutcome r) ⌝ }
+    {
+        match judge(self) {
+            Verdict::Sound => ClassAnswer::Given(classify(self.ends)),
+            Verdict::Wrong(n) => ClassAnswer::Refused(n, FIRST),
         }
     }
 }

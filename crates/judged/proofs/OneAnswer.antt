@@ -7,10 +7,12 @@ use Rattle.meaning.specs.Results.{Operation}
 use Rattle.meaning.specs.Statement.{DecPair, Bare₁, Bare₂, Decorated₁, Decorated₂}
 use Rattle.meaning.proofs.Unique.{bare₁-once, bare₂-once}
 use Rattle.states.proofs.DecoratedLaws.{decorated₁-once, decorated₂-once}
-use Rattle.interval.specs.Conversions.{outcome, decOutcome}
+use Rattle.interval.specs.Conversions.{outcome}
+use Rattle.dec_interval.specs.Conversions.{decOutcome}
 use Rattle.interval.specs.declared.answers.Answer.{Answer}
-use Rattle.interval.specs.declared.answers.DecAnswer.{DecAnswer}
-use Rattle.interval.proofs.Codes.{answer-known, decAnswer-known}
+use Rattle.dec_interval.specs.declared.answers.DecAnswer.{DecAnswer}
+use Rattle.interval.proofs.Codes.{answer-known}
+use Rattle.dec_interval.proofs.Codes.{decAnswer-known}
 
 module _ (F : Format) where
   pub one-once : (op : Unary) (x : Pair) (r s : Answer) → Bare₁ F op x (outcome r) → Bare₁ F op x (outcome s) → r ≡ s

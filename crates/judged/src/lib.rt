@@ -1,11 +1,12 @@
 // Any operation by name on any values: operands are judged first, the first before the second.
 ghost use Rattle.patterns.specs.Format.{binary64};
 ghost use Rattle.meaning.specs.Statement.{Bare₁, Bare₂, Decorated₁, Decorated₂};
-ghost use Rattle.interval.specs.Conversions.{pairOf, decPairOf, outcome, decOutcome};
+ghost use Rattle.interval.specs.Conversions.{pairOf, outcome};
+ghost use Rattle.dec_interval.specs.Conversions.{decPairOf, decOutcome};
 ghost use Rattle.operations.specs.Names.{unaryOf, binaryOf};
+use dec_interval::DecAnswer;
+use dec_interval::DecInterval;
 use interval::Answer;
-use interval::DecAnswer;
-use interval::DecInterval;
 use interval::Interval;
 use operands::Taken;
 use operands::take_one;

@@ -54,6 +54,13 @@ not-lt {x} {y} h = go (le-or-lt y x)
     go (inl k) = k
     go (inr k) = absurd (h k)
 
+pub not-le : {x y : Fraction} → (x ≼ y → ⊥) → y ≺ x
+not-le {x} {y} h = go (le-or-lt x y)
+  where
+    go : (x ≼ y) ⊎ (y ≺ x) → y ≺ x
+    go (inl k) = absurd (h k)
+    go (inr k) = k
+
 pub eq-refl : (x : Fraction) → x ≈ x
 eq-refl x = record { eq = refl }
 

@@ -43,6 +43,10 @@ settled (span unbounded b) Com = Dac
 settled (span (at a) unbounded) Com = Dac
 settled (span (at a) (at b)) Com = Com
 
+-- Nonempty and bounded.
+pub data Common : Set → Type 0 where
+  common : {a b : Fraction} → Common (span (at a) (at b))
+
 -- One point.
 pub data Point : Set → Type 0 where
   one : {a b : Fraction} → a ≈ b → Point (span (at a) (at b))

@@ -11,4 +11,5 @@ pub mod Decorations
 pub mod Statement
 pub mod Overlap
 pub mod Bytes
+pub mod Calls
 pub mod Requests

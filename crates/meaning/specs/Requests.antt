@@ -8,7 +8,8 @@ use Rattle.meaning.specs.Sets.{Set}
 use Rattle.meaning.specs.Pairs.{setOf}
 use Rattle.meaning.specs.Points.{Unary, neg, abs, ceil, floor, round, roundTiesEven, sign, trunc, add, sub, mul, div, max, min}
 use Rattle.meaning.specs.Results.{Operation, point, convexHull, intersection, Result₁, Result₂}
-use Rattle.meaning.specs.Statement.{DecPair, Outcome, refused, given, Answered₁, Answered₂, HullOf, RightDec₁, RightDec₂}
+use Rattle.meaning.specs.Statement.{DecPair, Outcome, given, Answered₁, Answered₂, HullOf, RightDec₁, RightDec₂}
+use Rattle.meaning.specs.Calls.{Test, Called}
 use Rattle.meaning.specs.Overlap.{OverlapNumber, DecoratedOverlap}
 use Rattle.meaning.specs.Bytes.{ByteOrder, bigEndian, readPair, writePair, writeDecorated, Written, JudgedBytes, JudgedDecBytes, ReadDecorated}
 
@@ -92,18 +93,6 @@ DecoratedOutcome F (binary op) first second o =
 DecoratedOutcome F overlap first second o =
     Answered₂ (JudgedDecBytes F bigEndian) (Read₂ F (λ x y. Written (writeState decoratedSize) (DecoratedOverlap F x y))) first second o
 
--- What a call on lent bytes leaves: its number, its place, and the whole output.
--- "Numbers are tried in the order 1, 2, 3, then 4, 5, 6 .."; "A refusal leaves the lent output untouched."
-pub data Called (inSize outSize : ℕ) (Known : List ℕ → Type 0) (Outcomes : List ℕ → Outcome (List ℕ) → Type 0) (input before : List ℕ) :
-    (number place : ℕ) → List ℕ → Type 0 where
-  wrongLength : (length input ≡ inSize → ⊥) → Called inSize outSize Known Outcomes input before 1 0 before
-  wrongRoom : length input ≡ inSize → (length before ≡ outSize → ⊥) → Called inSize outSize Known Outcomes input before 2 0 before
-  unknown : length input ≡ inSize → length before ≡ outSize → (Known input → ⊥) → Called inSize outSize Known Outcomes input before 3 0 before
-  refusedBytes : {n p : ℕ} → length input ≡ inSize → length before ≡ outSize → Known input → Outcomes input (refused n p)
-      → Called inSize outSize Known Outcomes input before n p before
-  answered : {out : List ℕ} → length input ≡ inSize → length before ≡ outSize → Known input → Outcomes input (given out)
-      → Called inSize outSize Known Outcomes input before 0 0 out
-
 -- The operation number, and the two operands of a given size behind it.
 pub record Asks (input : List ℕ) (q : Asked) : Type 0 where
   pub is : getD input 0 0 ≡ operationNumber q
@@ -123,23 +112,39 @@ pub record Requested (size : ℕ) (Outcomes : Asked → (first second : List ℕ
   pub asks : Asks input asked
   pub outcome : Outcomes asked (firstOperand size input) (secondOperand size input) o
 
+-- 1: "the input's length isn't the one fixed for the call".
+abbrev pub inputOf : (size : ℕ) → Test (List ℕ)
+inputOf size = record { Holds = λ input before. length input ≡ size; number = 1 }
+
+-- 2: "the output's length isn't exactly that of the answer".
+abbrev pub outputOf : (size : ℕ) → Test (List ℕ)
+outputOf size = record { Holds = λ input before. length before ≡ size; number = 2 }
+
+-- 3: "the operation number isn't 1 to 17".
+abbrev pub numbered : Test (List ℕ)
+numbered = record { Holds = λ input before. Known input; number = 3 }
+
+-- The tests of a request, and those of a codec, on intervals of a size.
+abbrev pub requestTests : (size : ℕ) → List (Test (List ℕ))
+requestTests size = inputOf (1 + size + size) ∷ outputOf size ∷ numbered ∷ []
+
+abbrev pub codecTests : (size : ℕ) → List (Test (List ℕ))
+codecTests size = inputOf size ∷ outputOf size ∷ []
+
 -- The statements of the two request calls.
 abbrev pub BareRequest : Format → (input before : List ℕ) (number place : ℕ) (after : List ℕ) → Type 0
-BareRequest F input before number place after =
-    Called (1 + bareSize + bareSize) bareSize Known (Requested bareSize (BareOutcome F)) input before number place after
+BareRequest F input before number place after = Called (requestTests bareSize) (Requested bareSize (BareOutcome F)) input before number place after
 
 abbrev pub DecoratedRequest : Format → (input before : List ℕ) (number place : ℕ) (after : List ℕ) → Type 0
 DecoratedRequest F input before number place after =
-    Called (1 + decoratedSize + decoratedSize) decoratedSize Known (Requested decoratedSize (DecoratedOutcome F)) input before number place after
+    Called (requestTests decoratedSize) (Requested decoratedSize (DecoratedOutcome F)) input before number place after
 
 -- "a codec (bare or decorated) reads one interval in one byte order and writes it in the other, place 1 with 4 to 6"
 abbrev pub BareCodec : Format → (from to : ByteOrder) (input before : List ℕ) (number place : ℕ) (after : List ℕ) → Type 0
 BareCodec F from to input before number place after =
-    Called bareSize bareSize (λ bs. Unit {0}) (λ bs o. Answered₁ (JudgedBytes F from) (λ x out. out ≡ writePair to (readPair from x)) bs o)
-    input before number place after
+    Called (codecTests bareSize) (λ bs. Answered₁ (JudgedBytes F from) (λ x out. out ≡ writePair to (readPair from x)) bs) input before number place after
 
 abbrev pub DecoratedCodec : Format → (from to : ByteOrder) (input before : List ℕ) (number place : ℕ) (after : List ℕ) → Type 0
 DecoratedCodec F from to input before number place after =
-    Called decoratedSize decoratedSize (λ bs. Unit {0})
-    (λ bs o. Answered₁ (JudgedDecBytes F from) (λ x out. Written (writeDecorated to) (ReadDecorated F from x) out) bs o)
-    input before number place after
+    Called (codecTests decoratedSize)
+    (λ bs. Answered₁ (JudgedDecBytes F from) (λ x out. Written (writeDecorated to) (ReadDecorated F from x) out) bs) input before number place after

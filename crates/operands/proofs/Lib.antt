@@ -1,6 +1,3 @@
 -- From what the shared steps find to the statements of operations.
 pub mod TakenLaws
 pub mod SortedLaws
-pub mod EmptyLaws
-pub mod MirrorLaws
-pub mod ExactHull

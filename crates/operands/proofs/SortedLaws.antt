@@ -10,10 +10,10 @@ use Rattle.meaning.specs.Pairs.{Pair, Bare, NaNs, setOf}
 use Rattle.meaning.specs.Decorations as meant
 use Rattle.meaning.specs.Decorations.{Ill, Trv, decorationByte, decorationBy, lowerOf, settled}
 use Rattle.meaning.specs.Statement.{sound, HullOf, DecPair, naI, JudgedDecorated, decoratedGood, RightDecorated, rightNaI, rightInterval}
-use Rattle.interval.specs.Conversions.{decorationOf}
-use Rattle.interval.specs.declared.types.Decoration.{Decoration}
-use Rattle.interval.proofs.AgreeLaws.{apart, only-bare}
-use Rattle.interval.proofs.StatementLaws.{sound-ends}
+use Rattle.end_pairs.proofs.KindLaws.{only-bare}
+use Rattle.decorations.specs.Conversions.{decorationOf}
+use Rattle.decorations.specs.declared.types.Decoration.{Decoration}
+use Rattle.decorations.proofs.AgreeLaws.{apart, sound-ends}
 use Rattle.operands.specs.Sorted.{AreIntervals, Sorted, sortedNaI, sortedIntervals, DecoratedBy}
 use Rattle.operands.specs.declared.sound.Operands.{Operands}
 

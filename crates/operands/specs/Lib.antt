@@ -1,4 +1,3 @@
 -- What the contracts of shared steps cite.
 pub mod Taken
 pub mod Sorted
-pub mod Mirror

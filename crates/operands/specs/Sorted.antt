@@ -5,8 +5,8 @@ use Rattle.meaning.specs.Pairs.{Pair, setOf}
 use Rattle.meaning.specs.Decorations as meant
 use Rattle.meaning.specs.Decorations.{Ill, lowerOf, settled}
 use Rattle.meaning.specs.Statement.{DecPair}
-use Rattle.interval.specs.Conversions.{decorationOf}
-use Rattle.interval.specs.declared.types.Decoration.{Decoration}
+use Rattle.decorations.specs.Conversions.{decorationOf}
+use Rattle.decorations.specs.declared.types.Decoration.{Decoration}
 use Rattle.operands.specs.declared.sound.Operands.{Operands}
 
 -- `IsNaI`: an operand is NaI. `Bares`: every operand is an interval. `lowest`: the lower of their decorations.

@@ -1,13 +1,15 @@
 // The decoration of an answer.
 ghost use Rattle.patterns.specs.Format.{binary64};
 ghost use Rattle.meaning.specs.Pairs.{Bare};
-ghost use Rattle.interval.specs.Conversions.{pairOf, decorationOf, decPairOf};
+ghost use Rattle.interval.specs.Conversions.{pairOf};
+ghost use Rattle.decorations.specs.Conversions.{decorationOf};
+ghost use Rattle.dec_interval.specs.Conversions.{decPairOf};
 ghost use Rattle.operands.specs.Sorted.{DecoratedBy};
-use interval::DecInterval;
-use interval::Decoration;
+use dec_interval::DecInterval;
+use decorations::Decoration;
+use decorations::lower_decoration;
+use decorations::settled;
 use interval::Interval;
-use interval::lower_decoration;
-use interval::settled;
 
 // The interval z with the lower of what the operation allows and the operands' own decoration, through `set_dec`.
 pub fn decorate(z: Interval, allowed: Decoration, operands: Decoration) -> DecInterval
@@ -16,6 +18,6 @@ pub fn decorate(z: Interval, allowed: Decoration, operands: Decoration) -> DecIn
 {
     DecInterval {
         x: z,
-        d: settled(z, lower_decoration(allowed, operands)),
+        d: settled(z.ends, lower_decoration(allowed, operands)),
     }
 }

@@ -2,15 +2,16 @@
 ghost use mathlib.Core.Path.{_≡_};
 ghost use Rattle.patterns.specs.Format.{binary64};
 ghost use Rattle.meaning.specs.Statement.{JudgedBare, JudgedDecorated};
-ghost use Rattle.interval.specs.Conversions.{pairOf, decPairOf, verdictOf};
+ghost use Rattle.interval.specs.Conversions.{pairOf, verdictOf};
+ghost use Rattle.dec_interval.specs.Conversions.{decPairOf};
 ghost use Rattle.operands.specs.Taken.{Taken₁, Taken₂};
-use interval::DecInterval;
+use dec_interval::DecInterval;
+use decorations::judge_dec;
 use interval::FIRST;
 use interval::Interval;
 use interval::SECOND;
 use interval::Verdict;
 use interval::judge;
-use interval::judge_dec;
 
 // Operands with nothing wrong, or the refusal of the first that is wrong, by its number and place.
 pub enum Taken {
@@ -54,11 +55,14 @@ pub fn take_two(x: Interval, y: Interval) -> Taken
 pub fn take_one_dec(x: DecInterval) -> Taken
     ensures { λ r. ⌜ Taken₁ (JudgedDecorated binary64) (decPairOf x) r ⌝ }
 {
-    alone(judge_dec(x))
+    let d = x.d;
+    alone(judge_dec(x.x.ends, d))
 }
 
 pub fn take_two_dec(x: DecInterval, y: DecInterval) -> Taken
     ensures { λ r. ⌜ Taken₂ (JudgedDecorated binary64) (decPairOf x) (decPairOf y) r ⌝ }
 {
-    in_turn(judge_dec(x), judge_dec(y))
+    let d = x.d;
+    let e = y.d;
+    in_turn(judge_dec(x.x.ends, d), judge_dec(y.x.ends, e))
 }

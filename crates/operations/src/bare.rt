@@ -3,6 +3,7 @@ ghost use Rattle.patterns.specs.Format.{binary64};
 ghost use Rattle.meaning.specs.Pairs.{Bare, setOf};
 ghost use Rattle.meaning.specs.Results.{Result₁, Result₂};
 ghost use Rattle.meaning.specs.Statement.{HullOf};
+ghost use Rattle.end_pairs.specs.Conversions as two;
 ghost use Rattle.interval.specs.Conversions.{pairOf};
 ghost use Rattle.operations.specs.Names.{unaryOf, binaryOf};
 use crate::names::Binary;
@@ -15,14 +16,16 @@ use arith::div_of;
 use arith::mul_of;
 use arith::neg_of;
 use arith::sub_of;
+use end_pairs::EndPair;
 use integer::image_of;
 use interval::Interval;
 use set_op::convex_hull_of;
 use set_op::intersection_of;
 
-pub fn image(f: Unary, x: Interval) -> Interval
-    requires { ⌜ Bare binary64 (pairOf x) ⌝ }
-    ensures { λ r. ⌜ HullOf binary64 (Result₁ (unaryOf f) (setOf binary64 (pairOf x))) (pairOf r) ⌝ }
+// The ends of the results, by the ends of the operands.
+fn image_ends(f: Unary, x: EndPair) -> EndPair
+    requires { ⌜ Bare binary64 (two.pairOf x) ⌝ }
+    ensures { λ r. ⌜ HullOf binary64 (Result₁ (unaryOf f) (setOf binary64 (two.pairOf x))) (two.pairOf r) ⌝ }
 {
     match f {
         Unary::Neg => neg_of(x),
@@ -31,9 +34,16 @@ pub fn image(f: Unary, x: Interval) -> Interval
     }
 }
 
-pub fn combine(o: Binary, x: Interval, y: Interval) -> Interval
-    requires { ⌜ Bare binary64 (pairOf x) × Bare binary64 (pairOf y) ⌝ }
-    ensures { λ r. ⌜ HullOf binary64 (Result₂ (binaryOf o) (setOf binary64 (pairOf x)) (setOf binary64 (pairOf y))) (pairOf r) ⌝ }
+pub fn image(f: Unary, x: Interval) -> Interval
+    requires { ⌜ Bare binary64 (pairOf x) ⌝ }
+    ensures { λ r. ⌜ HullOf binary64 (Result₁ (unaryOf f) (setOf binary64 (pairOf x))) (pairOf r) ⌝ }
+{
+    Interval::from_ends(image_ends(f, x.ends))
+}
+
+fn combine_ends(o: Binary, x: EndPair, y: EndPair) -> EndPair
+    requires { ⌜ Bare binary64 (two.pairOf x) × Bare binary64 (two.pairOf y) ⌝ }
+    ensures { λ r. ⌜ HullOf binary64 (Result₂ (binaryOf o) (setOf binary64 (two.pairOf x)) (setOf binary64 (two.pairOf y))) (two.pairOf r) ⌝ }
 {
     match o {
         Binary::Add => add_of(x, y),
@@ -45,4 +55,11 @@ pub fn combine(o: Binary, x: Interval, y: Interval) -> Interval
         Binary::Max => max_of(x, y),
         Binary::Min => min_of(x, y),
     }
+}
+
+pub fn combine(o: Binary, x: Interval, y: Interval) -> Interval
+    requires { ⌜ Bare binary64 (pairOf x) × Bare binary64 (pairOf y) ⌝ }
+    ensures { λ r. ⌜ HullOf binary64 (Result₂ (binaryOf o) (setOf binary64 (pairOf x)) (setOf binary64 (pairOf y))) (pairOf r) ⌝ }
+{
+    Interval::from_ends(combine_ends(o, x.ends, y.ends))
 }

@@ -5,24 +5,26 @@ ghost use Rattle.meaning.specs.Pairs.{Bare, setOf};
 ghost use Rattle.meaning.specs.Results.{Result₁};
 ghost use Rattle.meaning.specs.Decorations.{Allows₁, Allows₂};
 ghost use Rattle.meaning.specs.Statement.{HullOf, JudgedDecorated, sound, RightDec₁, RightDec₂};
-ghost use Rattle.interval.specs.Conversions.{pairOf, decorationOf, decPairOf};
+ghost use Rattle.end_pairs.specs.Conversions.{pairOf};
+ghost use Rattle.decorations.specs.Conversions.{decorationOf};
+ghost use Rattle.dec_interval.specs.Conversions.{decPairOf};
 ghost use Rattle.operations.specs.Names.{unaryOf, binaryOf};
 use crate::bare::combine;
 use crate::bare::image;
 use crate::names::Binary;
 use crate::names::Unary;
 use arith_ends::divided_decoration;
+use dec_interval::DecInterval;
+use decorations::Decoration;
+use end_pairs::EndPair;
 use integer::allowed;
-use interval::DecInterval;
-use interval::Decoration;
-use interval::Interval;
 use operands::Operands;
 use operands::decorate;
 use operands::one_operand;
 use operands::two_operands;
 
 // The highest decoration that the result `z` on the operand `x` may have.
-fn allowed_one(f: Unary, x: Interval, z: Interval) -> Decoration
+fn allowed_one(f: Unary, x: EndPair, z: EndPair) -> Decoration
     requires { ⌜ Bare binary64 (pairOf x) × HullOf binary64 (Result₁ (unaryOf f) (setOf binary64 (pairOf x))) (pairOf z) ⌝ }
     ensures { λ r. ⌜ Allows₁ (unaryOf f) (setOf binary64 (pairOf x)) (setOf binary64 (pairOf z)) (decorationOf r) ⌝ }
 {
@@ -34,7 +36,7 @@ fn allowed_one(f: Unary, x: Interval, z: Interval) -> Decoration
 }
 
 // The highest decoration that a result with the second operand `y` may have.
-fn allowed_two(o: Binary, y: Interval) -> Decoration
+fn allowed_two(o: Binary, y: EndPair) -> Decoration
     requires { ⌜ Bare binary64 (pairOf y) ⌝ }
     ensures { λ r. ⌜ ((X : Set) → Allows₂ (binaryOf o) X (setOf binary64 (pairOf y)) (decorationOf r)) ⌝ }
 {
@@ -57,9 +59,9 @@ pub fn image_dec(f: Unary, x: DecInterval) -> DecInterval
     match one_operand(x) {
         Operands::Nai => DecInterval::NAI,
         Operands::Intervals(d) => {
-            let ends = x.x;
-            let z = image(f, ends);
-            decorate(z, allowed_one(f, ends, z), d)
+            let part = x.x;
+            let z = image(f, part);
+            decorate(z, allowed_one(f, part.ends, z.ends), d)
         }
     }
 }
@@ -70,6 +72,6 @@ pub fn combine_dec(o: Binary, x: DecInterval, y: DecInterval) -> DecInterval
 {
     match two_operands(x, y) {
         Operands::Nai => DecInterval::NAI,
-        Operands::Intervals(d) => decorate(combine(o, x.x, y.x), allowed_two(o, y.x), d),
+        Operands::Intervals(d) => decorate(combine(o, x.x, y.x), allowed_two(o, y.x.ends), d),
     }
 }

@@ -50,6 +50,13 @@ const TRUNC: u8 = 16;
 
 const OVERLAP: u8 = 17;
 
+// Numbers of no operation: the one before the first, and all from the one behind the last to the greatest.
+const BEFORE: u8 = 0;
+
+const BEHIND: u8 = 18;
+
+const GREATEST: u8 = 255;
+
 fn unary_numbered(number: u8) -> Unary
     requires { ⌜ OneOperand number ⌝ }
     ensures { λ r. ⌜ number ≡ operationNumber (unary (unaryOf r)) ⌝ }
@@ -83,7 +90,7 @@ fn binary_numbered(number: u8) -> Binary
 }
 
 // The operation with a number. Numbers from ABS to TRUNC and NEG are of one operand, those from ADD to MIN of two, and so is
-// OVERLAP, whose answer is a state.
+// OVERLAP, whose answer is a state. All others are refused.
 pub fn numbered(number: u8) -> Asked
     ensures { λ r. ⌜ AskedBy number r ⌝ }
 {
@@ -91,6 +98,6 @@ pub fn numbered(number: u8) -> Asked
         NEG | ABS..=TRUNC => Asked::One(unary_numbered(number)),
         ADD..=MIN => Asked::Two(binary_numbered(number)),
         OVERLAP => Asked::Overlap,
-        _ => Asked::Nothing,
+        BEFORE | BEHIND..=GREATEST => Asked::Nothing,
     }
 }

@@ -10,8 +10,8 @@ use Rattle.meaning.specs.Pairs.{Pair, worth, minusInfinity, Proper, EmptyPair, 
 use Rattle.meaning.specs.Overlap.{State, bothEmpty, firstEmpty, secondEmpty, Conditions, Extended, minusInf, number, plusInf, asLower, asUpper, Less, lessNumbers, fromMinus, toPlus, across, Same, sameNumbers, minuses, pluses, OverlapOf}
 use Rattle.meaning.proofs.FractionLaws.{antisymm}
 use Rattle.meaning.proofs.PairLaws.{end-finite, end-infinity, end-minusInfinity, set-proper, set-empty}
-use Rattle.interval.specs.Keys.{keyOf}
-use Rattle.interval.proofs.KeyLaws.{key-le, key-lt, key-infinity, key-minusInfinity, finite-keys}
+use Rattle.end_pairs.specs.Keys.{keyOf}
+use Rattle.end_pairs.proofs.KeyLaws.{key-le, key-lt, key-infinity, key-minusInfinity, finite-keys}
 use Rattle.states.specs.Order.{Keys}
 use Rattle.states.proofs.KeyLaws.{by-keys}
 

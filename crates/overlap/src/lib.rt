@@ -1,7 +1,8 @@
 // The overlapping state of two intervals. The functions of this file take any value.
 ghost use Rattle.patterns.specs.Format.{binary64};
 ghost use Rattle.meaning.specs.Overlap.{BareOverlap, DecOverlap};
-ghost use Rattle.interval.specs.Conversions.{pairOf, decPairOf};
+ghost use Rattle.interval.specs.Conversions.{pairOf};
+ghost use Rattle.dec_interval.specs.Conversions.{decPairOf};
 ghost use Rattle.overlap.specs.Conversions.{overlapOutcome};
 
 mod answers;
@@ -13,7 +14,7 @@ pub use answers::DecState;
 pub use answers::OverlapAnswer;
 pub use answers::dec_state_number;
 pub use answers::state_number;
-use interval::DecInterval;
+use dec_interval::DecInterval;
 use interval::Interval;
 use operands::Taken;
 use operands::take_two;
@@ -27,7 +28,7 @@ pub fn overlap(x: Interval, y: Interval) -> OverlapAnswer
     ensures { λ r. ⌜ BareOverlap binary64 (pairOf x) (pairOf y) (overlapOutcome r) ⌝ }
 {
     match take_two(x, y) {
-        Taken::Sound => OverlapAnswer::Given(overlap_of(x, y)),
+        Taken::Sound => OverlapAnswer::Given(overlap_of(x.ends, y.ends)),
         Taken::Refused(n, place) => OverlapAnswer::Refused(n, place),
     }
 }

@@ -3,20 +3,21 @@ ghost use Rattle.patterns.specs.Format.{binary64};
 ghost use Rattle.meaning.specs.Pairs.{Bare, setOf};
 ghost use Rattle.meaning.specs.Overlap.{OverlapOf, DecoratedOverlap};
 ghost use Rattle.meaning.specs.Statement.{JudgedDecorated, sound};
-ghost use Rattle.interval.specs.Conversions.{pairOf, decPairOf};
+ghost use Rattle.end_pairs.specs.Conversions.{pairOf};
+ghost use Rattle.dec_interval.specs.Conversions.{decPairOf};
 ghost use Rattle.overlap.specs.Conversions.{stateOf, decNumberOf};
 use crate::answers::DecState;
 use crate::ends::compare;
 use crate::state::Overlap;
-use interval::DecInterval;
-use interval::Interval;
-use interval::is_empty_pair;
-use interval::key;
+use dec_interval::DecInterval;
+use end_pairs::EndPair;
+use end_pairs::is_empty_pair;
+use end_pairs::key;
 use operands::Operands;
 use operands::two_operands;
 
-// The state of two bare intervals.
-pub fn overlap_of(x: Interval, y: Interval) -> Overlap
+// The state of two bare intervals by their ends.
+pub fn overlap_of(x: EndPair, y: EndPair) -> Overlap
     requires { ⌜ Bare binary64 (pairOf x) × Bare binary64 (pairOf y) ⌝ }
     ensures { λ r. ⌜ OverlapOf (setOf binary64 (pairOf x)) (setOf binary64 (pairOf y)) (stateOf r) ⌝ }
 {
@@ -39,6 +40,6 @@ pub fn overlap_of_dec(x: DecInterval, y: DecInterval) -> DecState
 {
     match two_operands(x, y) {
         Operands::Nai => DecState::Nai,
-        Operands::Intervals(_) => DecState::State(overlap_of(x.x, y.x)),
+        Operands::Intervals(_) => DecState::State(overlap_of(x.x.ends, y.x.ends)),
     }
 }

@@ -1,11 +1,9 @@
--- A call on lent bytes leaves one number, one place and one output.
+-- A call leaves one number, one place and one output, whatever its tests are and in whatever order they are tried.
 use mathlib.Core.Path.{_≡_, refl, sym, _∙_, ap}
-use mathlib.Core.List.{List}
+use mathlib.Core.List.{List, [], _∷_}
 use Prim.Native.Nat.{ℕ}
-use lib.ListN.{length}
 use Rattle.meaning.specs.Statement.{Outcome, refused, given}
-use Rattle.meaning.specs.Requests.{Called, wrongLength, wrongRoom, unknown, refusedBytes, answered}
-use Rattle.request_laws.specs.Calls.{Left, leftBy, Tried, failed, passed, Leaves}
+use Rattle.meaning.specs.Calls.{Left, leftBy, Test, Tried, failed, passed, Chain, Called}
 
 -- At most one outcome.
 abbrev pub Single : {B : Type 0} → (Outcome B → Type 0) → Type 0
@@ -17,35 +15,38 @@ tried-once single o p (failed h) (passed k _) = absurd (h k)
 tried-once single o p (passed h _) (failed k) = absurd (k h)
 tried-once single o p (passed _ h) (passed _ k) = single o p h k
 
--- The conditions of a call in their order.
-abbrev InTurn : (inSize outSize : ℕ) (Known : List ℕ → Type 0) (Outcomes : List ℕ → Outcome (List ℕ) → Type 0) (input before : List ℕ)
-    → Outcome (List ℕ) → Type 0
-InTurn inSize outSize Known Outcomes input before =
-    Tried (length input ≡ inSize) 1 (Tried (length before ≡ outSize) 2 (Tried (Known input) 3 (Outcomes input)))
+chain-once : {I : Type 0} (Outcomes : I → Outcome (List ℕ) → Type 0) (input : I) (before : List ℕ) (tests : List (Test I)) → Single (Outcomes input)
+    → Single (Chain tests Outcomes input before)
+chain-once Outcomes input before [] single = single
+chain-once Outcomes input before (t ∷ ts) single = tried-once (chain-once Outcomes input before ts single)
 
-module _ {inSize outSize : ℕ} {Known : List ℕ → Type 0} {Outcomes : List ℕ → Outcome (List ℕ) → Type 0} {input before : List ℕ} where
-  in-turn : {n p : ℕ} {after : List ℕ} → Called inSize outSize Known Outcomes input before n p after
-      → (o : Outcome (List ℕ)) × InTurn inSize outSize Known Outcomes input before o
-      × (leftBy before o ≡ record { number = n; place = p; after = after })
-  in-turn (wrongLength h) = (refused 1 0, failed h, refl)
-  in-turn (wrongRoom h k) = (refused 2 0, passed h (failed k), refl)
-  in-turn (unknown h k l) = (refused 3 0, passed h (passed k (failed l)), refl)
-  in-turn (refusedBytes {n} {p} h k l o) = (refused n p, passed h (passed k (passed l o)), refl)
-  in-turn (answered {out} h k l o) = (given out, passed h (passed k (passed l o)), refl)
-
-  pub called-once : Single (Outcomes input) → (l m : Left)
-      → Leaves (Called inSize outSize Known Outcomes) input before l
-      → Leaves (Called inSize outSize Known Outcomes) input before m
+module _ {I : Type 0} {Outcomes : I → Outcome (List ℕ) → Type 0} {input : I} {before : List ℕ} where
+  pub called-once : {tests : List (Test I)} → Single (Outcomes input) → (l m : Left)
+      → Called tests Outcomes input before (l .number) (l .place) (l .after)
+      → Called tests Outcomes input before (m .number) (m .place) (m .after)
       → l ≡ m
-  called-once single l m h k =
-      let x = in-turn h in
-      let y = in-turn k in
-      let same = tried-once (tried-once (tried-once single)) (x .0) (y .0) (x .1) (y .1) in
-      sym (x .2) ∙ ap (leftBy before) same ∙ y .2
+  called-once {tests} single l m h k =
+      sym (h .leaves) ∙ ap (leftBy before) (chain-once Outcomes input before tests single (h .outcome) (k .outcome) (h .chain) (k .chain)) ∙ k .leaves
 
-  -- Where both lengths are right, the outcome decides.
-  pub called-by : (o : Outcome (List ℕ)) → length input ≡ inSize → length before ≡ outSize → Tried (Known input) 3 (Outcomes input) o
-      → Leaves (Called inSize outSize Known Outcomes) input before (leftBy before o)
-  called-by o h k (failed l) = unknown h k l
-  called-by (refused n p) h k (passed l r) = refusedBytes h k l r
-  called-by (given out) h k (passed l r) = answered h k l r
+  -- The end of the chain decides.
+  pub called-by : {tests : List (Test I)} (o : Outcome (List ℕ)) → Chain tests Outcomes input before o
+      → Called tests Outcomes input before (leftBy before o .number) (leftBy before o .place) (leftBy before o .after)
+  called-by o chain = record { outcome = o; chain = chain; leaves = refl }
+
+  -- A call that does not pass its first test is refused with its number, whatever the others say.
+  pub first-decides : {t : Test I} {ts : List (Test I)} {n p : ℕ} {after : List ℕ} → Called (t ∷ ts) Outcomes input before n p after
+      → (t .Holds input before → ⊥) → n ≡ t .number
+  first-decides {t} {ts} {n} {p} {after} h fails = go (h .outcome) (h .chain) (h .leaves)
+    where
+      go : (o : Outcome (List ℕ)) → Chain (t ∷ ts) Outcomes input before o → leftBy before o ≡ record { number = n; place = p; after = after }
+          → n ≡ t .number
+      go o (failed _) e = sym (ap (λ (l : Left). l .number) e)
+      go o (passed holds _) e = absurd (fails holds)
+
+  -- Nothing is written on a refusal.
+  pub untouched : {tests : List (Test I)} {n p : ℕ} {after : List ℕ} → Called tests Outcomes input before n p after → (n ≡ 0 → ⊥) → after ≡ before
+  untouched {n = n} {p = p} {after = after} h refusal = go (h .outcome) (h .leaves)
+    where
+      go : (o : Outcome (List ℕ)) → leftBy before o ≡ record { number = n; place = p; after = after } → after ≡ before
+      go (refused _ _) e = sym (ap (λ (l : Left). l .after) e)
+      go (given _) e = absurd (refusal (sym (ap (λ (l : Left). l .number) e)))

@@ -1,18 +1,21 @@
 -- A chunk of requests has one output, and a run that repeats its first reply is none.
 use mathlib.Core.Path.{_≡_, refl, sym, _∙_, ap, ap₂}
 use mathlib.Core.List.{List, _∷_, _++_}
-use Prim.Native.Nat.{ℕ, zero, suc, _*_, _+_, _<_, _≤_}
+use Prim.Native.Nat.{ℕ, _*_, _<_, _≤_}
 use native.Mathlib.Omega.{arith}
 use lib.Dec.{lit<, lit≤}
-use lib.ListN.{length, getD, take, take-append-drop}
-use lib.Seq.{take-add}
+use lib.ListN.{length, getD, take-append-drop}
 use Rattle.patterns.specs.Format.{binary64}
 use Rattle.meaning.specs.Bytes.{bigEndian, writeDecorated}
-use Rattle.meaning.specs.Requests.{zeros, decoratedSize, DecoratedRequest, unknown}
+use Rattle.meaning.specs.Requests.{zeros, decoratedSize, DecoratedRequest}
 use Rattle.meaning.proofs.OperationNumbers.{not-zero}
 use Rattle.cases.specs.Table.{two}
-use Rattle.request_laws.specs.Calls.{Left, Leaves}
+use Rattle.meaning.specs.Statement.{refused}
+use Rattle.meaning.specs.Calls.{Left, failed, passed}
+use Rattle.request_laws.specs.Calls.{Leaves}
 use Rattle.request_laws.specs.Chunk.{requestSize, replySize, part, Replied, Chunk}
+use Rattle.request_laws.proofs.PartLaws.{parts-agree}
+use Rattle.request_laws.proofs.CalledLaws.{called-by}
 use Rattle.request_laws.proofs.OneOutcome.{decorated-request-once}
 use Rattle.request_laws.proofs.Examples.{decoratedSum, decorated-sum, common}
 
@@ -27,14 +30,6 @@ replied-as {request} h l c = h .is ∙ ap reply (decorated-request-once binary64
 pub replied-once : {request a b : List ℕ} → Replied request a → Replied request b → a ≡ b
 replied-once h k = replied-as h (k .left) (k .called) ∙ sym (k .is)
 
--- Lists whose first parts agree agree that far.
-parts-agree : (size count : ℕ) (a b : List ℕ) → ((i : ℕ) → i < count → part size i a ≡ part size i b) → take (size * count) a ≡ take (size * count) b
-parts-agree size zero a b h = let e : size * 0 ≡ 0 = omega arith in rw e
-parts-agree size (suc n) a b h =
-    let e : size * suc n ≡ size * n + size = omega arith in
-    rw e
-    (take-add (size * n) size a ∙ ap₂ _++_ (parts-agree size n a b (λ i l. h i (omega arith))) (h n (omega arith)) ∙ sym (take-add (size * n) size b))
-
 pub chunk-once : (count : ℕ) {input before a b : List ℕ} → Chunk count input before a → Chunk count input before b → a ≡ b
 chunk-once count {a = a} {b = b} h k =
     sym (take-append-drop (replySize * count) a)
@@ -42,18 +37,19 @@ chunk-once count {a = a} {b = b} h k =
     ∙ take-append-drop (replySize * count) b
 
 -- A request that is answered, and one with an operation number that is none.
-abbrev twoRequests : List ℕ
+abbrev pub twoRequests : List ℕ
 twoRequests = decoratedSum ++ zeros requestSize
 
-first-reply : {bytes : List ℕ} → Replied (part requestSize 0 twoRequests) bytes → getD bytes 0 0 ≡ 0
+pub first-reply : {bytes : List ℕ} → Replied (part requestSize 0 twoRequests) bytes → getD bytes 0 0 ≡ 0
 first-reply h =
     ap (λ (l : List ℕ). getD l 0 0)
     (replied-as h (record { number = 0; place = 0; after = writeDecorated bigEndian (common two) }) decorated-sum)
 
-second-reply : {bytes : List ℕ} → Replied (part requestSize 1 twoRequests) bytes → getD bytes 0 0 ≡ 3
+pub second-reply : {bytes : List ℕ} → Replied (part requestSize 1 twoRequests) bytes → getD bytes 0 0 ≡ 3
 second-reply h =
     ap (λ (l : List ℕ). getD l 0 0)
-    (replied-as h (record { number = 3; place = 0; after = zeros decoratedSize }) (unknown refl refl (λ k. not-zero (k .asked) (sym (k .asks .is)))))
+    (replied-as h (record { number = 3; place = 0; after = zeros decoratedSize })
+    (called-by (refused 3 0) (passed refl (passed refl (failed (λ k. not-zero (k .asked) (sym (k .asks .is))))))))
 
 -- No run that answers the first request and repeats its reply answers every chunk for which there is room.
 pub no-repeating : (run : (count : ℕ) (input before : List ℕ) → List ℕ)

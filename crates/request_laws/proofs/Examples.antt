@@ -1,5 +1,5 @@
--- A request that is answered, bare and decorated: [1, 1] + [1, 1] = [2, 2].
-use mathlib.Core.Path.{refl, ap}
+-- A request and a codec that are answered, bare and decorated: [1, 1] + [1, 1] = [2, 2], and [1, 1] in the other byte order.
+use mathlib.Core.Path.{_≡_, refl, ap}
 use mathlib.Core.List.{List, _∷_, _++_}
 use Prim.Native.Nat.{ℕ}
 use native.Mathlib.Omega.{arith}
@@ -11,14 +11,16 @@ use Rattle.meaning.specs.Points.{add}
 use Rattle.meaning.specs.Results.{Result₂, point}
 use Rattle.meaning.specs.Pairs.{Bare, Canonical, minusInfinity, endOf, setOf}
 use Rattle.meaning.specs.Decorations.{Com}
-use Rattle.meaning.specs.Statement.{DecPair, given, sound, HullOf, RightDec₂, right₂, Decorated₂, Agrees, decoratedGood}
-use Rattle.meaning.specs.Bytes.{bigEndian, bytesGood, JudgedDecBytes, decBytesGood, canonicalEnds, ReadDecorated, readInterval, writePair, writeDecorated}
-use Rattle.meaning.specs.Requests.{binary, operationNumber, zeros, bareSize, decoratedSize, answered, BareRequest, DecoratedRequest}
+use Rattle.meaning.specs.Statement.{DecPair, given, sound, HullOf, RightDec₂, right₁, right₂, Decorated₂, Agrees, decoratedGood}
+use Rattle.meaning.specs.Bytes.{ByteOrder, bigEndian, littleEndian, bytesGood, JudgedDecBytes, decBytesGood, canonicalEnds, ReadDecorated, readInterval, writePair, writeDecorated}
+use Rattle.meaning.specs.Calls.{passed}
+use Rattle.meaning.specs.Requests.{binary, operationNumber, zeros, bareSize, decoratedSize, firstOperand, BareRequest, DecoratedRequest, BareCodec, DecoratedCodec}
 use Rattle.states.proofs.PairLaws.{bare-not-nans}
 use Rattle.exact_ends.specs.Answer.{adding}
 use Rattle.cases.specs.Table.{only, one, two, decoratedBy}
 use Rattle.cases.proofs.RowTests.{arithmetic-hull}
 use Rattle.cases.proofs.DecoratedTests.{decorated-tested}
+use Rattle.request_laws.proofs.CalledLaws.{called-by}
 use Rattle.request_laws.proofs.WrongCalls.{Shown}
 
 one-and-one : Bare binary64 (only one) × Bare binary64 (only one) × HullOf binary64 (Result₂ (point add) (setOf binary64 (only one)) (setOf binary64 (only one))) (only two)
@@ -34,24 +36,34 @@ bareSum = operationNumber (binary (point add)) ∷ (writePair bigEndian (only on
 
 bare-sum : BareRequest binary64 bareSum (zeros bareSize) 0 0 (writePair bigEndian (only two))
 bare-sum =
-    answered refl refl (record { asked = binary (point add); asks = record { is = refl } })
+    called-by (given (writePair bigEndian (only two)))
+    (passed refl
+    (passed refl
+    (passed (record { asked = binary (point add); asks = record { is = refl } })
     (record {
       asked = binary (point add);
       asks = record { is = refl };
       outcome =
           right₂ (bytesGood one-canonical) (bytesGood one-canonical)
           (record { answer = only two; right = one-and-one .2; written = refl });
-    })
+    }))))
 
--- The first byte of the answer is not 0.
-pub bare-shown : Shown (BareRequest binary64)
+-- Bytes that differ at a place differ.
+apart : (k : ℕ) {l m : List ℕ} → (getD l k 0 ≡ getD m k 0 → ⊥) → l ≡ m → ⊥
+apart k differ e = differ (ap (λ (l : List ℕ). getD l k 0) e)
+
+-- The first byte of the answer is that of no wrong one.
+pub bare-shown : Shown (BareRequest binary64) bigEndian (firstOperand bareSize)
 bare-shown =
     record {
       input = bareSum;
       before = zeros bareSize;
       out = writePair bigEndian (only two);
       right = bare-sum;
-      changes = λ e. omega (arith, ap (λ (l : List ℕ). getD l 0 0) e);
+      changes = apart 0 (λ e. omega arith);
+      notEntire = apart 0 (λ e. omega arith);
+      notEmpty = apart 0 (λ e. omega arith);
+      notFirst = apart 0 (λ e. omega arith);
     }
 
 -- The same with decorations.
@@ -68,38 +80,107 @@ commonly : SoundSum (common one) (common one) (common two)
 unfolding infinity signBit value magnitude plus minus opposite _⊕_ _⊗_ minusInfinity endOf setOf
 commonly = sound-sum (decorated-tested binary64 adding (common one) (common one) (common two) tt)
 
-one-sound : JudgedDecBytes binary64 bigEndian (writeDecorated bigEndian (common one)) sound
-one-sound = decBytesGood Com (record { is = refl }) (canonicalEnds one-canonical) (commonly .0)
+one-sound : (o : ByteOrder) → JudgedDecBytes binary64 o (writeDecorated o (common one)) sound
+one-sound bigEndian = decBytesGood Com (record { is = refl }) (canonicalEnds one-canonical) (commonly .0)
+one-sound littleEndian = decBytesGood Com (record { is = refl }) (canonicalEnds one-canonical) (commonly .0)
 
-one-read : ReadDecorated binary64 bigEndian (writeDecorated bigEndian (common one)) (common one)
-one-read = readInterval Com (record { is = refl }) (bare-not-nans binary64 (only one) (one-and-one .0))
+one-read : (o : ByteOrder) → ReadDecorated binary64 o (writeDecorated o (common one)) (common one)
+one-read bigEndian = readInterval Com (record { is = refl }) (bare-not-nans binary64 (only one) (one-and-one .0))
+one-read littleEndian = readInterval Com (record { is = refl }) (bare-not-nans binary64 (only one) (one-and-one .0))
 
 abbrev pub decoratedSum : List ℕ
 decoratedSum = operationNumber (binary (point add)) ∷ (writeDecorated bigEndian (common one) ++ writeDecorated bigEndian (common one))
 
 pub decorated-sum : DecoratedRequest binary64 decoratedSum (zeros decoratedSize) 0 0 (writeDecorated bigEndian (common two))
 decorated-sum =
-    answered refl refl (record { asked = binary (point add); asks = record { is = refl } })
+    called-by (given (writeDecorated bigEndian (common two)))
+    (passed refl
+    (passed refl
+    (passed (record { asked = binary (point add); asks = record { is = refl } })
     (record {
       asked = binary (point add);
       asks = record { is = refl };
       outcome =
-          right₂ one-sound one-sound
+          right₂ (one-sound bigEndian) (one-sound bigEndian)
           (record {
             x = common one;
             y = common one;
-            readX = one-read;
-            readY = one-read;
+            readX = one-read bigEndian;
+            readY = one-read bigEndian;
             right = record { answer = common two; right = commonly .2; written = refl };
           });
-    })
+    }))))
 
-pub decorated-shown : Shown (DecoratedRequest binary64)
+pub decorated-shown : Shown (DecoratedRequest binary64) bigEndian (firstOperand decoratedSize)
 decorated-shown =
     record {
       input = decoratedSum;
       before = zeros decoratedSize;
       out = writeDecorated bigEndian (common two);
       right = decorated-sum;
-      changes = λ e. omega (arith, ap (λ (l : List ℕ). getD l 0 0) e);
+      changes = apart 0 (λ e. omega arith);
+      notEntire = apart 0 (λ e. omega arith);
+      notEmpty = apart 0 (λ e. omega arith);
+      notFirst = apart 0 (λ e. omega arith);
+    }
+
+-- A codec's operand is its whole input.
+abbrev pub whole : List ℕ → List ℕ
+whole input = input
+
+-- The byte of an end that weighs most is the first in big endian and the last in little endian, and that of no wrong answer.
+pub bare-shown-big : Shown (BareCodec binary64 littleEndian bigEndian) bigEndian whole
+bare-shown-big =
+    record {
+      input = writePair littleEndian (only one);
+      before = zeros bareSize;
+      out = writePair bigEndian (only one);
+      right = called-by (given (writePair bigEndian (only one))) (passed refl (passed refl (right₁ (bytesGood one-canonical) refl)));
+      changes = apart 0 (λ e. omega arith);
+      notEntire = apart 0 (λ e. omega arith);
+      notEmpty = apart 0 (λ e. omega arith);
+      notFirst = apart 0 (λ e. omega arith);
+    }
+
+pub bare-shown-little : Shown (BareCodec binary64 bigEndian littleEndian) littleEndian whole
+bare-shown-little =
+    record {
+      input = writePair bigEndian (only one);
+      before = zeros bareSize;
+      out = writePair littleEndian (only one);
+      right = called-by (given (writePair littleEndian (only one))) (passed refl (passed refl (right₁ (bytesGood one-canonical) refl)));
+      changes = apart 7 (λ e. omega arith);
+      notEntire = apart 7 (λ e. omega arith);
+      notEmpty = apart 7 (λ e. omega arith);
+      notFirst = apart 7 (λ e. omega arith);
+    }
+
+pub decorated-shown-big : Shown (DecoratedCodec binary64 littleEndian bigEndian) bigEndian whole
+decorated-shown-big =
+    record {
+      input = writeDecorated littleEndian (common one);
+      before = zeros decoratedSize;
+      out = writeDecorated bigEndian (common one);
+      right =
+          called-by (given (writeDecorated bigEndian (common one)))
+          (passed refl (passed refl (right₁ (one-sound littleEndian) (record { answer = common one; right = one-read littleEndian; written = refl }))));
+      changes = apart 0 (λ e. omega arith);
+      notEntire = apart 0 (λ e. omega arith);
+      notEmpty = apart 0 (λ e. omega arith);
+      notFirst = apart 0 (λ e. omega arith);
+    }
+
+pub decorated-shown-little : Shown (DecoratedCodec binary64 bigEndian littleEndian) littleEndian whole
+decorated-shown-little =
+    record {
+      input = writeDecorated bigEndian (common one);
+      before = zeros decoratedSize;
+      out = writeDecorated littleEndian (common one);
+      right =
+          called-by (given (writeDecorated littleEndian (common one)))
+          (passed refl (passed refl (right₁ (one-sound bigEndian) (record { answer = common one; right = one-read bigEndian; written = refl }))));
+      changes = apart 7 (λ e. omega arith);
+      notEntire = apart 7 (λ e. omega arith);
+      notEmpty = apart 7 (λ e. omega arith);
+      notFirst = apart 7 (λ e. omega arith);
     }

@@ -8,7 +8,8 @@ use Rattle.meaning.specs.Requests.{BareRequest, DecoratedRequest, BareCodec, De
 use Rattle.meaning.proofs.Unique.{one-answer₁, written-once}
 use Rattle.states.proofs.VerdictLaws.{judged-bytes-once, judged-decBytes-once}
 use Rattle.states.proofs.ReadingLaws.{read-once}
-use Rattle.request_laws.specs.Calls.{Left, Statement, Leaves}
+use Rattle.meaning.specs.Calls.{Left}
+use Rattle.request_laws.specs.Calls.{Statement, Leaves}
 use Rattle.request_laws.proofs.CalledLaws.{called-once}
 use Rattle.request_laws.proofs.OutcomeLaws.{bare-outcome-once, decorated-outcome-once, requested-once}
 

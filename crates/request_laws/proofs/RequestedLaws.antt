@@ -5,7 +5,7 @@ use Prim.Native.Nat.{ℕ}
 use lib.ListN.{getD}
 use Rattle.meaning.specs.Statement.{Outcome, given}
 use Rattle.meaning.specs.Requests.{Asked, operationNumber, Known, Requested, firstOperand, secondOperand}
-use Rattle.request_laws.specs.Calls.{leftBy, Tried, passed}
+use Rattle.meaning.specs.Calls.{leftBy, Tried, passed}
 
 -- The outcome for the operation number and the operands of a request is the request's.
 pub requested : {Outcomes : Asked → (first second : List ℕ) → Outcome (List ℕ) → Type 0} {o : Outcome (List ℕ)} {size : ℕ}

@@ -5,9 +5,10 @@ use Prim.Native.Nat.{ℕ}
 use lib.ListN.{length}
 use Rattle.patterns.specs.Format.{Format}
 use Rattle.meaning.specs.Points.{Unary}
-use Rattle.meaning.specs.Statement.{Outcome, refused, given}
-use Rattle.meaning.specs.Requests.{Asked, unary, Asks, Known, Requested, firstOperand, secondOperand, Called, wrongLength, wrongRoom, unknown, refusedBytes, answered, bareSize, decoratedSize, BareRequest, DecoratedRequest}
-use Rattle.request_laws.specs.Calls.{Left, Statement, Leaves, Call, Meets}
+use Rattle.meaning.specs.Statement.{Outcome}
+use Rattle.meaning.specs.Requests.{Asked, unary, Asks, Known, Requested, firstOperand, secondOperand, requestTests, bareSize, decoratedSize, BareRequest, DecoratedRequest}
+use Rattle.meaning.specs.Calls.{Left, failed, passed, Chain, Called}
+use Rattle.request_laws.specs.Calls.{Statement, Leaves, Call, Meets}
 use Rattle.meaning.proofs.OperationNumbers.{asks-once}
 use Rattle.request_laws.proofs.OneOutcome.{bare-request-once, decorated-request-once}
 
@@ -35,14 +36,17 @@ module _ {size : ℕ} {op : Unary} {input other : List ℕ} (same : SameFirst si
             (unread (firstOperand size input) (secondOperand size input) (secondOperand size other) o is);
       }
 
-  call-moved : {inSize outSize : ℕ} {before : List ℕ} {n p : ℕ} {after : List ℕ}
-      → Called inSize outSize Known (Requested size Outcomes) input before n p after
-      → Called inSize outSize Known (Requested size Outcomes) other before n p after
-  call-moved (wrongLength h) = wrongLength (λ e. h (same .long ∙ e))
-  call-moved (wrongRoom h k) = wrongRoom (sym (same .long) ∙ h) k
-  call-moved (unknown h k l) = absurd (l (known (same .asks)))
-  call-moved (refusedBytes {n} {p} h k l r) = refusedBytes (sym (same .long) ∙ h) k (known (same .asksToo)) (moved (refused n p) r)
-  call-moved (answered {out} h k l r) = answered (sym (same .long) ∙ h) k (known (same .asksToo)) (moved (given out) r)
+  chain-moved : (before : List ℕ) (o : Outcome (List ℕ)) → Chain (requestTests size) (Requested size Outcomes) input before o
+      → Chain (requestTests size) (Requested size Outcomes) other before o
+  chain-moved before o (failed h) = failed (λ e. h (same .long ∙ e))
+  chain-moved before o (passed h (failed k)) = passed (sym (same .long) ∙ h) (failed k)
+  chain-moved before o (passed h (passed k (failed l))) = absurd (l (known (same .asks)))
+  chain-moved before o (passed h (passed k (passed l r))) = passed (sym (same .long) ∙ h) (passed k (passed (known (same .asksToo)) (moved o r)))
+
+  call-moved : {before : List ℕ} {n p : ℕ} {after : List ℕ}
+      → Called (requestTests size) (Requested size Outcomes) input before n p after
+      → Called (requestTests size) (Requested size Outcomes) other before n p after
+  call-moved {before} h = record { outcome = h .outcome; chain = chain-moved before (h .outcome) (h .chain); leaves = h .leaves }
 
 -- Both requests leave the same.
 abbrev pub SecondUnread : (size : ℕ) → Statement → Type 0

@@ -1,53 +1,65 @@
--- Wrong versions of a call on lent bytes: what its statement says of them, once for requests and codecs.
-use mathlib.Core.Path.{_≡_, refl, sym, ap}
+-- Wrong versions of a call on lent bytes: what its statement says of them, once for all calls.
+use mathlib.Core.Path.{_≡_, refl, sym, _∙_, ap}
 use mathlib.Core.List.{List}
 use Prim.Native.Nat.{ℕ}
-use lib.ListN.{length}
-use Rattle.meaning.specs.Statement.{Outcome}
-use Rattle.meaning.specs.Requests.{Called, wrongLength, wrongRoom, unknown, refusedBytes, answered}
-use Rattle.request_laws.specs.Calls.{Left, Statement, Call, Meets}
+use lib.ListN.{take}
+use Rattle.meaning.specs.Bytes.{ByteOrder, writePair}
+use Rattle.meaning.specs.Calls.{Left}
+use Rattle.meaning.specs.Requests.{bareSize}
+use Rattle.cases.specs.Table.{entire, emptiness}
+use Rattle.request_laws.specs.Calls.{Statement, Call, Meets, Packed}
 use Rattle.request_laws.proofs.OneOutcome.{OneLeft}
+use Rattle.request_laws.proofs.SmallLaws.{packed-once}
 
-module _ {inSize outSize : ℕ} {Known : List ℕ → Type 0} {Outcomes : List ℕ → Outcome (List ℕ) → Type 0} {input before : List ℕ} where
-  -- Nothing is written on a refusal.
-  pub untouched : {n p : ℕ} {after : List ℕ} → Called inSize outSize Known Outcomes input before n p after → (n ≡ 0 → ⊥) → after ≡ before
-  untouched (wrongLength _) refusal = refl
-  untouched (wrongRoom _ _) refusal = refl
-  untouched (unknown _ _ _) refusal = refl
-  untouched (refusedBytes _ _ _ _) refusal = refl
-  untouched (answered _ _ _ _) refusal = absurd (refusal refl)
+-- The bytes of an interval's ends in an answer or an operand.
+abbrev ends : List ℕ → List ℕ
+ends l = take bareSize l
 
-  -- 1 is tried first: the number is 1 for an input of another length, whatever the length of the output.
-  pub length-first : {n p : ℕ} {after : List ℕ} → Called inSize outSize Known Outcomes input before n p after
-      → (length input ≡ inSize → ⊥) → n ≡ 1
-  length-first (wrongLength _) wrong = refl
-  length-first (wrongRoom h _) wrong = absurd (wrong h)
-  length-first (unknown h _ _) wrong = absurd (wrong h)
-  length-first (refusedBytes h _ _ _) wrong = absurd (wrong h)
-  length-first (answered h _ _ _) wrong = absurd (wrong h)
+-- The inspector's versions of a call that answers in a byte order, and whose first operand `first` finds: one that never writes its
+-- output; one that refuses everything; one that answers ENTIRE, or EMPTY, always; one that hands back the first operand.
+pub data WrongCall (order : ByteOrder) (first : List ℕ → List ℕ) (input before : List ℕ) (l : Left) : Type 0 where
+  neverWrites : l .after ≡ before → WrongCall order first input before l
+  refusesAll : (l .number ≡ 0 → ⊥) → WrongCall order first input before l
+  answersEntire : ends (l .after) ≡ writePair order entire → WrongCall order first input before l
+  answersEmpty : ends (l .after) ≡ writePair order emptiness → WrongCall order first input before l
+  handsBack : ends (l .after) ≡ ends (first input) → WrongCall order first input before l
 
--- An input that a statement answers, and a lent output that the answer changes.
-pub record Shown (S : Statement) : Type 0 where
+-- An input that a statement answers, and a lent output, on which none of them is right.
+pub record Shown (S : Statement) (order : ByteOrder) (first : List ℕ → List ℕ) : Type 0 where
   pub input : List ℕ
   pub before : List ℕ
   pub out : List ℕ
   pub right : S input before 0 0 out
   pub changes : out ≡ before → ⊥
+  pub notEntire : ends out ≡ writePair order entire → ⊥
+  pub notEmpty : ends out ≡ writePair order emptiness → ⊥
+  pub notFirst : ends out ≡ ends (first input) → ⊥
 
--- A wrong version never writes its output, or it refuses everything.
-pub data WrongCall (before : List ℕ) : Left → Type 0 where
-  neverWrites : (n p : ℕ) → WrongCall before (record { number = n; place = p; after = before })
-  refusesAll : {l : Left} → (l .number ≡ 0 → ⊥) → WrongCall before l
+module _ {S : Statement} {order : ByteOrder} {first : List ℕ → List ℕ} (once : OneLeft S) (shown : Shown S order first) where
+  abbrev rightLeft : Left
+  rightLeft = record { number = 0; place = 0; after = shown .out }
 
-not-wrong : {before out : List ℕ} {l : Left} → (out ≡ before → ⊥) → l ≡ record { number = 0; place = 0; after = out } → WrongCall before l → ⊥
-not-wrong changes e (neverWrites n p) = changes (sym (ap (λ (l : Left). l .after) e))
-not-wrong changes e (refusesAll refuses) = refuses (ap (λ (l : Left). l .number) e)
+  not-wrong : {l : Left} → l ≡ rightLeft → WrongCall order first (shown .input) (shown .before) l → ⊥
+  not-wrong e (neverWrites h) = shown .changes (sym (ap (λ (l : Left). l .after) e) ∙ h)
+  not-wrong e (refusesAll refuses) = refuses (ap (λ (l : Left). l .number) e)
+  not-wrong e (answersEntire h) = shown .notEntire (sym (ap (λ (l : Left). ends (l .after)) e) ∙ h)
+  not-wrong e (answersEmpty h) = shown .notEmpty (sym (ap (λ (l : Left). ends (l .after)) e) ∙ h)
+  not-wrong e (handsBack h) = shown .notFirst (sym (ap (λ (l : Left). ends (l .after)) e) ∙ h)
 
--- No such version meets a statement that allows one thing and answers some input.
-pub no-wrong-call : {S : Statement} → OneLeft S → Shown S → (call : Call) → ((input before : List ℕ) → WrongCall before (call input before)) → Meets S call → ⊥
-no-wrong-call once shown call wrong meets =
-    let input = shown .input in
-    let before = shown .before in
-    not-wrong (shown .changes)
-    (once input before (call input before) (record { number = 0; place = 0; after = shown .out }) (meets input before) (shown .right))
-    (wrong input before)
+  -- No such version meets the statement, nor one that is like one of them on some inputs and like another on others.
+  pub no-wrong-call : (call : Call) → ((input before : List ℕ) → WrongCall order first input before (call input before)) → Meets S call → ⊥
+  no-wrong-call call wrong meets =
+      let input = shown .input in
+      let before = shown .before in
+      not-wrong (once input before (call input before) rightLeft (meets input before) (shown .right)) (wrong input before)
+
+  -- The same of a call whose number and place are packed into one result.
+  pub no-wrong-packed : (result : (input before : List ℕ) → ℕ) (after : (input before : List ℕ) → List ℕ)
+      → ((input before : List ℕ) → WrongCall order first input before (record { number = result input before; place = 0; after = after input before }))
+      → ((input before : List ℕ) → Packed S input before (result input before) (after input before)) → ⊥
+  no-wrong-packed result after wrong meets =
+      let input = shown .input in
+      let before = shown .before in
+      let right : Packed S input before 0 (shown .out) = record { number = 0; place = 0; is = refl; called = shown .right } in
+      let (number, output) = packed-once once input before (meets input before) right in
+      not-wrong (λ i. record { number = number i; place = 0; after = output i }) (wrong input before)

@@ -1,24 +1,8 @@
--- Calls on lent bytes, and what they leave.
+-- Statements of calls on lent bytes, versions of them, and results that are packed into one number.
 use mathlib.Core.Path.{_≡_}
 use mathlib.Core.List.{List}
 use Prim.Native.Nat.{ℕ, _+_, _*_, _≤_}
-use Rattle.meaning.specs.Statement.{Outcome, refused, given}
-
--- What a call leaves, as one value.
-pub record Left : Type 0 where
-  pub number : ℕ
-  pub place : ℕ
-  pub after : List ℕ
-
--- What an outcome leaves: "A refusal leaves the lent output untouched."
-abbrev pub leftBy : (before : List ℕ) → Outcome (List ℕ) → Left
-leftBy before (refused n p) = record { number = n; place = p; after = before }
-leftBy before (given out) = record { number = 0; place = 0; after = out }
-
--- A condition that is tried before what is next. Its refusal has place 0.
-pub data Tried (P : Type 0) (number : ℕ) (Next : Outcome (List ℕ) → Type 0) : Outcome (List ℕ) → Type 0 where
-  failed : (P → ⊥) → Tried P number Next (refused number 0)
-  passed : {o : Outcome (List ℕ)} → P → Next o → Tried P number Next o
+use Rattle.meaning.specs.Calls.{Left}
 
 -- The statement of a call: what it leaves for each input and each lent output.
 abbrev pub Statement : Type 1

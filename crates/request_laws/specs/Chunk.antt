@@ -5,7 +5,8 @@ use Prim.Native.Nat.{ℕ, _+_, _*_, _<_}
 use lib.ListN.{take, drop}
 use Rattle.patterns.specs.Format.{binary64}
 use Rattle.meaning.specs.Requests.{zeros, decoratedSize, DecoratedRequest}
-use Rattle.request_laws.specs.Calls.{Left, Leaves}
+use Rattle.meaning.specs.Calls.{Left}
+use Rattle.request_laws.specs.Calls.{Leaves}
 
 abbrev pub requestSize : ℕ
 requestSize = 1 + decoratedSize + decoratedSize

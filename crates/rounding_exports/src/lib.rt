@@ -1,11 +1,41 @@
 // The three roundings over columns of patterns, for the benchmark's host to call.
-ghost use Rattle.rounding_exports.specs.Columns.{Fillable, Filled};
+ghost use mathlib.Core.Path.{_≡_};
+ghost use lib.ListN.{length};
+ghost use Rattle.flags.specs.Answers.{Answers};
+ghost use Rattle.rounding_exports.specs.Columns.{Filled, FilledOrRefused, TakesRows};
 use rounding_runs::operation::Operation;
 use rounding_runs::operation::rounded;
+use rounding_runs::operation::takes;
+
+// The number of a call that is accepted.
+const ACCEPTED: u32 = 0;
+
+// The operands' columns are not of one length.
+const WRONG_LENGTH: u32 = 1;
+
+// The answers' column is not as long as the operands'.
+const WRONG_ROOM: u32 = 2;
+
+// A row has operands that the operation does not take.
+const BAD_OPERANDS: u32 = 5;
+
+// Whether the operation takes the operands of every row. None is skipped: a branch in each row would cost more.
+fn takes_rows(o: Operation, a: &[u64], b: &[u64]) -> bool
+    requires { ⌜ length (now b) ≡ length (now a) ⌝ }
+    ensures { λ r. ⌜ Answers (TakesRows o (now (a .entry)) (now (b .entry))) r ⌝ }
+{
+    let mut all = true;
+    let mut k = 0;
+    while k < a.len() {
+        all = all & takes(o, a[k], b[k]);
+        k += 1;
+    }
+    all
+}
 
 // Rounds the result of every row.
 fn fill(o: Operation, a: &[u64], b: &[u64], out: &mut [u64])
-    requires { ⌜ Fillable o (now a) (now b) (now out) ⌝ }
+    requires { ⌜ (length (now b) ≡ length (now a)) × (length (now out) ≡ length (now a)) × TakesRows o (now a) (now b) ⌝ }
     ensures { λ _. ⌜ Filled o (now (a .entry)) (now (b .entry)) (now (out .exit)) ⌝ }
 {
     let mut k = 0;
@@ -15,29 +45,43 @@ fn fill(o: Operation, a: &[u64], b: &[u64], out: &mut [u64])
     }
 }
 
-// The sum of each row. The host answers for what is required.
-#[no_mangle]
-pub extern "C" fn rounding_exports_sums(a: &[u64], b: &[u64], out: &mut [u64])
-    requires { ⌜ Fillable Operation.Sum (now a) (now b) (now out) ⌝ }
-    ensures { λ _. ⌜ Filled Operation.Sum (now (a .entry)) (now (b .entry)) (now (out .exit)) ⌝ }
+// Judges all rows before the first is written.
+fn fill_or_refuse(o: Operation, a: &[u64], b: &[u64], out: &mut [u64]) -> u32
+    ensures { λ r. ⌜ FilledOrRefused o (now (a .entry)) (now (b .entry)) (now (out .entry)) r (now (out .exit)) ⌝ }
 {
-    fill(Operation::Sum, a, b, out);
+    if b.len() != a.len() {
+        return WRONG_LENGTH;
+    }
+    if out.len() != a.len() {
+        return WRONG_ROOM;
+    }
+    if !takes_rows(o, a, b) {
+        return BAD_OPERANDS;
+    }
+    fill(o, a, b, out);
+    ACCEPTED
 }
 
-// The product of each row. The host answers for what is required.
+// The sum of each row.
 #[no_mangle]
-pub extern "C" fn rounding_exports_products(a: &[u64], b: &[u64], out: &mut [u64])
-    requires { ⌜ Fillable Operation.Product (now a) (now b) (now out) ⌝ }
-    ensures { λ _. ⌜ Filled Operation.Product (now (a .entry)) (now (b .entry)) (now (out .exit)) ⌝ }
+pub extern "C" fn rounding_exports_sums(a: &[u64], b: &[u64], out: &mut [u64]) -> u32
+    ensures { λ r. ⌜ FilledOrRefused Operation.Sum (now (a .entry)) (now (b .entry)) (now (out .entry)) r (now (out .exit)) ⌝ }
 {
-    fill(Operation::Product, a, b, out);
+    fill_or_refuse(Operation::Sum, a, b, out)
 }
 
-// The quotient of each row. The host answers for what is required.
+// The product of each row.
 #[no_mangle]
-pub extern "C" fn rounding_exports_quotients(a: &[u64], b: &[u64], out: &mut [u64])
-    requires { ⌜ Fillable Operation.Quotient (now a) (now b) (now out) ⌝ }
-    ensures { λ _. ⌜ Filled Operation.Quotient (now (a .entry)) (now (b .entry)) (now (out .exit)) ⌝ }
+pub extern "C" fn rounding_exports_products(a: &[u64], b: &[u64], out: &mut [u64]) -> u32
+    ensures { λ r. ⌜ FilledOrRefused Operation.Product (now (a .entry)) (now (b .entry)) (now (out .entry)) r (now (out .exit)) ⌝ }
 {
-    fill(Operation::Quotient, a, b, out);
+    fill_or_refuse(Operation::Product, a, b, out)
+}
+
+// The quotient of each row.
+#[no_mangle]
+pub extern "C" fn rounding_exports_quotients(a: &[u64], b: &[u64], out: &mut [u64]) -> u32
+    ensures { λ r. ⌜ FilledOrRefused Operation.Quotient (now (a .entry)) (now (b .entry)) (now (out .entry)) r (now (out .exit)) ⌝ }
+{
+    fill_or_refuse(Operation::Quotient, a, b, out)
 }

@@ -11,9 +11,9 @@ use Rattle.meaning.specs.Sets.{End, Ordered, ordered, noLower, noUpper, mirrorE
 use Rattle.meaning.specs.Pairs.{worth, minusInfinity}
 use Rattle.meaning.proofs.FractionLaws.{le-refl, lt-le, lt-not-le, neg-le}
 use Rattle.points.specs.Ends.{_⊑_, numbers, noneAbove, Greater, greaterFirst, greaterSecond, Lesser, lesserFirst, lesserSecond}
-use Rattle.interval.proofs.KeyLaws.{key-lt, finite-keys, key-infinity, key-minusInfinity}
-use Rattle.interval.proofs.Shapes.{LowerShape, lowerFinite, lowerInfinite, UpperShape, upperFinite, upperInfinite}
-use Rattle.set_op.specs.Ends.{LesserOf, lesserIsFirst, lesserIsSecond, GreaterOf, greaterIsFirst, greaterIsSecond}
+use Rattle.end_pairs.proofs.KeyLaws.{key-lt, finite-keys, key-infinity, key-minusInfinity}
+use Rattle.end_pairs.proofs.Shapes.{LowerShape, lowerFinite, lowerInfinite, UpperShape, upperFinite, upperInfinite}
+use Rattle.end_pairs.specs.Order.{LesserOf, lesserIsFirst, lesserIsSecond, GreaterOf, greaterIsFirst, greaterIsSecond}
 
 module _ (F : Format) where
   infinity-pattern : infinity F < 2 * signBit F
@@ -64,33 +64,33 @@ module _ (F : Format) {m n : ℕ} where
 -- The chosen one of two patterns stands for the chosen end.
 module _ (F : Format) {m n : ℕ} {u v : End} where
   pub greater-upper : {r : ℕ} → UpperShape F m u → UpperShape F n v → GreaterOf F m n r → (w : End) × UpperShape F r w × Greater u v w
-  greater-upper s t (greaterIsFirst h) = (u, s, greaterFirst (upper-order F t s h))
+  greater-upper s t (greaterIsFirst h) = (u, s, greaterFirst (upper-order F t s (lt-le h)))
   greater-upper s t (greaterIsSecond h) = (v, t, greaterSecond (upper-order F s t h))
 
   pub lesser-upper : {r : ℕ} → UpperShape F m u → UpperShape F n v → LesserOf F m n r → (w : End) × UpperShape F r w × Lesser u v w
   lesser-upper s t (lesserIsFirst h) = (u, s, lesserFirst (upper-order F s t h))
-  lesser-upper s t (lesserIsSecond h) = (v, t, lesserSecond (upper-order F t s h))
+  lesser-upper s t (lesserIsSecond h) = (v, t, lesserSecond (upper-order F t s (lt-le h)))
 
   -- Lower ends are in order as their mirrors are not.
   pub lesser-lower : {r : ℕ} → LowerShape F m u → LowerShape F n v → LesserOf F m n r
       → (w : End) × LowerShape F r w × Greater (mirrorEnd u) (mirrorEnd v) (mirrorEnd w)
   lesser-lower s t (lesserIsFirst h) = (u, s, greaterFirst (lower-order F s t h))
-  lesser-lower s t (lesserIsSecond h) = (v, t, greaterSecond (lower-order F t s h))
+  lesser-lower s t (lesserIsSecond h) = (v, t, greaterSecond (lower-order F t s (lt-le h)))
 
   pub greater-lower : {r : ℕ} → LowerShape F m u → LowerShape F n v → GreaterOf F m n r
       → (w : End) × LowerShape F r w × Lesser (mirrorEnd u) (mirrorEnd v) (mirrorEnd w)
-  greater-lower s t (greaterIsFirst h) = (u, s, lesserFirst (lower-order F t s h))
+  greater-lower s t (greaterIsFirst h) = (u, s, lesserFirst (lower-order F t s (lt-le h)))
   greater-lower s t (greaterIsSecond h) = (v, t, lesserSecond (lower-order F s t h))
 
 -- The greater of two is below neither, and the lesser above neither.
 module _ (F : Format) {m n : ℕ} where
   pub greater-above : {r : ℕ} → GreaterOf F m n r → (worth F m ≼ worth F r) × (worth F n ≼ worth F r)
-  greater-above (greaterIsFirst h) = (le-refl (worth F m), h)
+  greater-above (greaterIsFirst h) = (le-refl (worth F m), lt-le h)
   greater-above (greaterIsSecond h) = (h, le-refl (worth F n))
 
   pub lesser-below : {r : ℕ} → LesserOf F m n r → (worth F r ≼ worth F m) × (worth F r ≼ worth F n)
   lesser-below (lesserIsFirst h) = (le-refl (worth F m), h)
-  lesser-below (lesserIsSecond h) = (h, le-refl (worth F n))
+  lesser-below (lesserIsSecond h) = (lt-le h, le-refl (worth F n))
 
   -- What holds of both holds of the greater, and of the lesser.
   pub greater-one : (P : ℕ → Type 0) {r : ℕ} → GreaterOf F m n r → P m → P n → P r

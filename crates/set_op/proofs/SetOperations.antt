@@ -13,8 +13,8 @@ use Rattle.meaning.proofs.PairLaws.{set-empty}
 use Rattle.meaning.proofs.PatternHull.{hull-of-none}
 use Rattle.points.specs.Ends.{upperOfBoth}
 use Rattle.points.proofs.Unions.{hull-bounds, intersection-bounds, intersection-meets}
-use Rattle.operands.proofs.ExactHull.{exact-hull}
-use Rattle.set_op.specs.Ends.{LesserOf, GreaterOf}
+use Rattle.end_pairs.proofs.ExactHull.{exact-hull}
+use Rattle.end_pairs.specs.Order.{LesserOf, GreaterOf}
 use Rattle.set_op.proofs.EndOrder.{ends-ordered, patterns-ordered, greater-upper, lesser-upper, lesser-lower, greater-lower, greater-above, lesser-below, greater-one, lesser-one}
 use Rattle.set_op.proofs.TrueEnds.{Exact, SpanOf, spanOf, moved}
 

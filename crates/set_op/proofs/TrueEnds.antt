@@ -17,8 +17,8 @@ use Rattle.meaning.proofs.SetLaws.{mirrorEnd-twice, some-member}
 use Rattle.meaning.proofs.PairLaws.{worth-opposite, opposite-minusInfinity, end-finite, end-infinity, end-minusInfinity, lower-not-infinity, set-proper, set-valid}
 use Rattle.meaning.proofs.HullLaws.{RoundedUp, hull-of-bounds}
 use Rattle.points.specs.Ends.{Bounds}
-use Rattle.interval.proofs.Shapes.{LowerShape, lowerFinite, lowerInfinite, UpperShape, upperFinite, upperInfinite, Shape, shapeEmpty, shapeSpan, shape}
-use Rattle.operands.proofs.ExactHull.{set-of-format}
+use Rattle.end_pairs.proofs.Shapes.{LowerShape, lowerFinite, lowerInfinite, UpperShape, upperFinite, upperInfinite, Shape, shapeEmpty, shapeSpan, shape}
+use Rattle.end_pairs.proofs.ExactHull.{set-of-format}
 use Rattle.set_op.proofs.EndOrder.{patterns-ordered}
 
 -- The ends of the pair are the true bounds of the results.

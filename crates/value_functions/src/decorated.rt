@@ -1,13 +1,13 @@
 // Functions of decorated intervals, which take one, its parts, or two ends. Each has a number of its own.
+use dec_interval::DecInterval;
 use interchange::decorated;
-use interval::DecInterval;
 use value_records::replies;
 use value_records::replies::Said;
 use value_records::values::Operand;
 
 // The reply to the function with a number, if it takes a decoration.
 fn ask(number: u8, x: DecInterval) -> Said {
-    let ends = x.x;
+    let ends = x.x.ends;
     let d = x.d;
     match number {
         97 => replies::end(x.inf()),
@@ -29,7 +29,7 @@ fn ask(number: u8, x: DecInterval) -> Said {
 // The reply to the function with a number.
 pub fn call(number: u8, o: Operand) -> Said {
     let x = o.value;
-    let ends = x.x;
+    let ends = x.x.ends;
     match number {
         96 => replies::decorated(DecInterval::try_from(ends.a, ends.b)),
         97..=108 => replies::if_known(o, ask(number, x)),

@@ -2,9 +2,9 @@
 use calls::BARE;
 use calls::DECORATED;
 use calls::bare_at;
+use dec_interval::DecInterval;
 use interchange::bare;
 use interchange::decorated;
-use interval::DecInterval;
 use interval::Interval;
 use value_records::replies;
 use value_records::replies::Said;

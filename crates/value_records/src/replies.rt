@@ -11,27 +11,28 @@
 use crate::values::Operand;
 use crate::values::ends_of;
 use calls::BARE;
-use classify::ClassAnswer;
 use classify::IntervalClass;
+use dec_interval::DecAnswer;
+use dec_interval::DecInterval;
+use dec_interval::DecorationAnswer;
+use dec_interval::PartAnswer;
+use decorations::decoration_byte;
 use end_bytes::ByteOrder;
 use end_bytes::read_ends;
 use end_bytes::write_ends;
+use end_pairs::EndPair;
 use interchange::bare::BytesAnswer;
 use interchange::decorated::DecBytesAnswer;
 use interval::ACCEPTED;
 use interval::Answer;
 use interval::BAD_BYTE;
 use interval::BoolAnswer;
-use interval::DecAnswer;
-use interval::DecInterval;
-use interval::DecorationAnswer;
+use interval::ClassAnswer;
 use interval::EndAnswer;
 use interval::FIRST;
 use interval::Interval;
 use interval::NO_PLACE;
-use interval::PartAnswer;
 use interval::SECOND;
-use interval::decoration_byte;
 use overlap::DecState;
 use overlap::OverlapAnswer;
 use overlap::dec_state_number;
@@ -64,20 +65,17 @@ const FIRST_BYTE: u64 = 0x0100_0000_0000_0000;
 pub struct Said {
     pub number: u32,
     pub place: u32,
-    pub ends: Interval,
+    pub ends: EndPair,
     pub last: u8,
 }
 
-// Two patterns, which need be no interval's ends.
-fn patterns(a: u64, b: u64) -> Interval {
-    Interval { a, b }
-}
+const NO_ENDS: EndPair = EndPair { a: 0, b: 0 };
 
 pub fn refused(number: u32, place: u32) -> Said {
     Said {
         number,
         place,
-        ends: patterns(0, 0),
+        ends: NO_ENDS,
         last: 0,
     }
 }
@@ -106,7 +104,7 @@ pub fn if_both_known(x: Operand, y: Operand, reply: Said) -> Said {
 }
 
 // The ends are written as they are, so that a zero of the wrong sign shows.
-fn accepted(ends: Interval, last: u8) -> Said {
+fn accepted(ends: EndPair, last: u8) -> Said {
     Said {
         number: ACCEPTED,
         place: NO_PLACE,
@@ -115,18 +113,22 @@ fn accepted(ends: Interval, last: u8) -> Said {
     }
 }
 
+// Eight bytes first.
+fn first_word(a: u64) -> Said {
+    accepted(EndPair { a, b: 0 }, 0)
+}
+
 fn one_byte(b: u8) -> Said {
-    accepted(patterns((b as u64) * FIRST_BYTE, 0), 0)
+    first_word((b as u64) * FIRST_BYTE)
 }
 
 pub fn bare_interval(x: Interval) -> Said {
-    accepted(x, 0)
+    accepted(x.ends, 0)
 }
 
 pub fn decorated_interval(x: DecInterval) -> Said {
-    let ends = x.x;
     let d = x.d;
-    accepted(ends, decoration_byte(d))
+    accepted(x.x.ends, decoration_byte(d))
 }
 
 pub fn bare(r: Answer) -> Said {
@@ -156,7 +158,7 @@ pub fn truth(r: BoolAnswer) -> Said {
 
 pub fn end(r: EndAnswer) -> Said {
     match r {
-        EndAnswer::Given(e) => accepted(patterns(e, 0), 0),
+        EndAnswer::Given(e) => first_word(e),
         EndAnswer::Refused(n, place) => refused(n, place),
     }
 }
@@ -171,7 +173,7 @@ pub fn decoration(r: DecorationAnswer) -> Said {
 pub fn part(r: PartAnswer) -> Said {
     match r {
         PartAnswer::Given(x) => bare_interval(x),
-        PartAnswer::Missing => accepted(patterns(0, 0), MISSING),
+        PartAnswer::Missing => accepted(NO_ENDS, MISSING),
         PartAnswer::Refused(n, place) => refused(n, place),
     }
 }
@@ -203,7 +205,7 @@ pub fn state(r: OverlapAnswer) -> Said {
     }
 }
 
-fn sixteen(bytes: [u8; BARE]) -> Interval {
+fn sixteen(bytes: [u8; BARE]) -> EndPair {
     read_ends(&bytes, ByteOrder::Big)
 }
 

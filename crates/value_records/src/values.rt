@@ -1,11 +1,12 @@
 // Operands by value, made of a record's bytes and not judged.
 use calls::DECORATED;
+use dec_interval::DecInterval;
+use decorations::Decoration;
 use end_bytes::ByteOrder;
 use end_bytes::read_ends;
+use end_pairs::EndPair;
 use interchange::decorated::ByteDecoration;
 use interchange::decorated::decoration_of;
-use interval::DecInterval;
-use interval::Decoration;
 use interval::Interval;
 
 // Where the decoration's byte stands in an operand.
@@ -18,11 +19,12 @@ pub struct Operand {
 }
 
 // The two patterns at the front of an operand, or of an answer.
-pub(crate) fn ends_of(bytes: [u8; DECORATED]) -> Interval {
+pub(crate) fn ends_of(bytes: [u8; DECORATED]) -> EndPair {
     read_ends(&bytes, ByteOrder::Big)
 }
 
-fn with_decoration(x: Interval, d: Decoration) -> DecInterval {
+fn with_decoration(ends: EndPair, d: Decoration) -> DecInterval {
+    let x = Interval { ends };
     DecInterval { x, d }
 }
 

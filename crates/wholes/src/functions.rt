@@ -15,7 +15,7 @@ use crate::magnitudes::upward;
 use crate::split::Parts;
 use crate::split::Side;
 use crate::split::split;
-use interval::SIGN;
+use end_pairs::SIGN;
 
 pub enum Function {
     Ceil,

@@ -1,12 +1,11 @@
 -- `div_of` meets its contract: there is no quotient of EMPTY or by 0 alone, and the ends of others are those of the table.
-use mathlib.Core.Path.{subst⁻¹}
+use mathlib.Core.Path.{sym, _∙_}
 use Rattle.patterns.specs.Format.{binary64, infinity, signBit}
-use Rattle.meaning.specs.Pairs.{Proper, minusInfinity}
+use Rattle.meaning.specs.Pairs.{minusInfinity}
 use Rattle.meaning.specs.Points.{div}
 use Rattle.flags.proofs.AnswerLaws.{said-yes, said-no}
-use Rattle.operands.proofs.EmptyLaws.{neither-empty, empty-hull₂}
-use Rattle.operands.proofs.MirrorLaws.{mirror-proper}
-use Rattle.arith.proofs.BoundLaws.{quotient-hull, no-quotient}
+use Rattle.end_pairs.proofs.EmptyLaws.{neither-empty, empty-hull₂}
+use Rattle.arith.proofs.BoundLaws.{divides, quotient-hull, no-quotient}
 use Rattle.arith.proofs.div_of.Statement.{statement}
 use Rattle.arith.proofs.div_of.Tie as tie
 
@@ -17,39 +16,70 @@ returns : tie.Need-returns
 unfolding infinity minusInfinity signBit
 returns c = empty-hull₂ binary64 div _ _ (said-yes (c .before .either-empty .ensures) (c .if1 .taken))
 
+classify-requires : tie.Need-classify-requires
+classify-requires c κs = c .before .before .pre .1
+
 is-zero-requires : tie.Need-is-zero-requires
-is-zero-requires c κs = c .before .before .pre .1
+is-zero-requires c κs = tt
 
 returns-2 : tie.Need-returns-2
 unfolding infinity minusInfinity signBit
 returns-2 c =
-    let test = c .before .before in
+    let class = c .before .before in
+    let test = class .before in
     no-quotient binary64 _ _ (neither-empty binary64 (test .before .before .pre) (said-no (test .before .either-empty .ensures) (test .if1 .left)))
-    (said-yes (c .before .is-zero .ensures) (c .if2 .taken))
+    (class .classify .ensures) (sym (c .before .is-zero .ensures) ∙ c .if2 .taken)
+
+classify-requires-2 : tie.Need-classify-requires-2
+classify-requires-2 c κs = c .before .before .before .before .before .pre .0
+
+kind-of-requires : tie.Need-kind-of-requires
+kind-of-requires c κs = tt
+
+mirrored-kind-requires : tie.Need-mirrored-kind-requires
+mirrored-kind-requires c κs = tt
+
+quotient-corner-requires : tie.Need-quotient-corner-requires
+quotient-corner-requires c κs = tt
 
 mirrored-requires : tie.Need-mirrored-requires
 mirrored-requires c κs = tt
 
-quotient-upper-requires : tie.Need-quotient-upper-requires
-quotient-upper-requires c κs =
-    let test = c .before .before .before in
-    let proper = neither-empty binary64 (test .before .before .pre) (said-no (test .before .either-empty .ensures) (test .if1 .left)) in
-    (subst⁻¹ (Proper binary64) (c .mirrored .ensures) (mirror-proper binary64 _ (proper .0)), proper .1)
+quotient-at-requires : tie.Need-quotient-at-requires
+quotient-at-requires c κs =
+    let class = c .before .before .before .before .before .before .before in
+    let test = class .before in
+    rw (c .before .quotient-corner .ensures)
+    (divides binary64 _ _ (neither-empty binary64 (test .before .before .pre) (said-no (test .before .either-empty .ensures) (test .if1 .left)))
+    (class .classify .ensures) (c .before .before .mirrored-kind .result))
 
-quotient-upper-requires-2 : tie.Need-quotient-upper-requires-2
-quotient-upper-requires-2 c κs =
-    let test = c .before .before .before .before in
-    neither-empty binary64 (test .before .before .pre) (said-no (test .before .either-empty .ensures) (test .if1 .left))
+quotient-corner-requires-2 : tie.Need-quotient-corner-requires-2
+quotient-corner-requires-2 c κs = tt
+
+quotient-at-requires-2 : tie.Need-quotient-at-requires-2
+quotient-at-requires-2 c κs =
+    let class = c .before .before .before .before .before .before .before .before .before in
+    let test = class .before in
+    rw (c .quotient-corner2 .ensures)
+    (divides binary64 _ _ (neither-empty binary64 (test .before .before .pre) (said-no (test .before .either-empty .ensures) (test .if1 .left)))
+    (class .classify .ensures) (c .before .before .before .before .before .kind-of .result))
 
 outward-requires : tie.Need-outward-requires
 outward-requires c κs = tt
 
 returns-3 : tie.Need-returns-3
 returns-3 c =
-    let test = c .before .before .before .before .before .before in
+    let upper = c .before in
+    let lower = upper .before .before in
+    let kinds = lower .before .before .before in
+    let zero = kinds .before .before .before in
+    let class = zero .before .before in
+    let test = class .before in
     quotient-hull binary64 _ _ (neither-empty binary64 (test .before .before .pre) (said-no (test .before .either-empty .ensures) (test .if1 .left)))
-    (c .outward .ensures) (c .before .before .before .mirrored .ensures) (said-no (c .before .before .before .before .before .is-zero .ensures) (c .before .before .before .before .if2 .left))
-    (c .before .before .quotient-upper .ensures) (c .before .quotient-upper2 .ensures)
+    (c .outward .ensures) (lower .before .mirrored .ensures) (kinds .before .before .classify2 .ensures) (class .classify .ensures)
+    (sym (zero .before .is-zero .ensures) ∙ zero .if2 .left)
+    (rw (lower .before .before .quotient-corner .ensures, kinds .mirrored-kind .ensures, kinds .before .kind-of .ensures) at (lower .quotient-at .ensures))
+    (rw (upper .before .quotient-corner2 .ensures, kinds .before .kind-of .ensures) at (upper .quotient-at2 .ensures))
 
 pub div-of-spec : {M : Type 1} → statement M
 div-of-spec =
@@ -57,10 +87,16 @@ div-of-spec =
     (tie.spec
     either-empty-requires
     returns
+    classify-requires
     is-zero-requires
     returns-2
+    classify-requires-2
+    kind-of-requires
+    mirrored-kind-requires
+    quotient-corner-requires
     mirrored-requires
-    quotient-upper-requires
-    quotient-upper-requires-2
+    quotient-at-requires
+    quotient-corner-requires-2
+    quotient-at-requires-2
     outward-requires
     returns-3)

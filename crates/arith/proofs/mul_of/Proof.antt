@@ -1,11 +1,9 @@
 -- `mul_of` meets its contract: EMPTY has no products, and the ends of others are those of the table.
-use mathlib.Core.Path.{subst⁻¹}
 use Rattle.patterns.specs.Format.{binary64, infinity, signBit}
-use Rattle.meaning.specs.Pairs.{Proper, minusInfinity}
+use Rattle.meaning.specs.Pairs.{minusInfinity}
 use Rattle.meaning.specs.Points.{mul}
 use Rattle.flags.proofs.AnswerLaws.{said-yes, said-no}
-use Rattle.operands.proofs.EmptyLaws.{neither-empty, empty-hull₂}
-use Rattle.operands.proofs.MirrorLaws.{mirror-proper}
+use Rattle.end_pairs.proofs.EmptyLaws.{neither-empty, empty-hull₂}
 use Rattle.arith.proofs.BoundLaws.{product-hull}
 use Rattle.arith.proofs.mul_of.Statement.{statement}
 use Rattle.arith.proofs.mul_of.Tie as tie
@@ -17,29 +15,50 @@ returns : tie.Need-returns
 unfolding infinity minusInfinity signBit
 returns c = empty-hull₂ binary64 mul _ _ (said-yes (c .before .either-empty .ensures) (c .if1 .taken))
 
+classify-requires : tie.Need-classify-requires
+classify-requires c κs = c .before .before .pre .0
+
+kind-of-requires : tie.Need-kind-of-requires
+kind-of-requires c κs = tt
+
+classify-requires-2 : tie.Need-classify-requires-2
+classify-requires-2 c κs = c .before .before .before .before .pre .1
+
+kind-of-requires-2 : tie.Need-kind-of-requires-2
+kind-of-requires-2 c κs = tt
+
+mirrored-kind-requires : tie.Need-mirrored-kind-requires
+mirrored-kind-requires c κs = tt
+
+product-corner-requires : tie.Need-product-corner-requires
+product-corner-requires c κs = tt
+
 mirrored-requires : tie.Need-mirrored-requires
 mirrored-requires c κs = tt
 
-product-upper-requires : tie.Need-product-upper-requires
-product-upper-requires c κs =
-    let test = c .before in
-    let proper = neither-empty binary64 (test .before .before .pre) (said-no (test .before .either-empty .ensures) (test .if1 .left)) in
-    (subst⁻¹ (Proper binary64) (c .mirrored .ensures) (mirror-proper binary64 _ (proper .0)), proper .1)
+product-at-requires : tie.Need-product-at-requires
+product-at-requires c κs = tt
 
-product-upper-requires-2 : tie.Need-product-upper-requires-2
-product-upper-requires-2 c κs =
-    let test = c .before .before in
-    neither-empty binary64 (test .before .before .pre) (said-no (test .before .either-empty .ensures) (test .if1 .left))
+product-corner-requires-2 : tie.Need-product-corner-requires-2
+product-corner-requires-2 c κs = tt
+
+product-at-requires-2 : tie.Need-product-at-requires-2
+product-at-requires-2 c κs = tt
 
 outward-requires : tie.Need-outward-requires
 outward-requires c κs = tt
 
 returns-2 : tie.Need-returns-2
 returns-2 c =
-    let test = c .before .before .before .before in
+    let upper = c .before in
+    let lower = upper .before .before in
+    let kinds = lower .before .before .before in
+    let first = kinds .before .before .before in
+    let test = first .before .before in
     product-hull binary64 _ _ (neither-empty binary64 (test .before .before .pre) (said-no (test .before .either-empty .ensures) (test .if1 .left)))
-    (c .outward .ensures) (c .before .before .before .mirrored .ensures)
-    (c .before .before .product-upper .ensures) (c .before .product-upper2 .ensures)
+    (c .outward .ensures) (lower .before .mirrored .ensures) (first .before .classify .ensures) (kinds .before .before .classify2 .ensures)
+    (rw (lower .before .before .product-corner .ensures, kinds .mirrored-kind .ensures, first .kind-of .ensures, kinds .before .kind-of2 .ensures) at (lower .product-at .ensures))
+    (rw (upper .before .product-corner2 .ensures, first .kind-of .ensures, kinds .before .kind-of2 .ensures) at (upper .product-at2 .ensures))
 
 pub mul-of-spec : {M : Type 1} → statement M
 mul-of-spec =
@@ -47,8 +66,15 @@ mul-of-spec =
     (tie.spec
     either-empty-requires
     returns
+    classify-requires
+    kind-of-requires
+    classify-requires-2
+    kind-of-requires-2
+    mirrored-kind-requires
+    product-corner-requires
     mirrored-requires
-    product-upper-requires
-    product-upper-requires-2
+    product-at-requires
+    product-corner-requires-2
+    product-at-requires-2
     outward-requires
     returns-2)

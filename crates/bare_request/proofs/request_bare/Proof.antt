@@ -2,7 +2,9 @@
 use mathlib.Core.Path.{subst}
 use borrow.Author.Needs.{needs}
 use Rattle.patterns.specs.Format.{binary64}
-use Rattle.meaning.specs.Requests.{wrongLength, wrongRoom, BareRequest}
+use Rattle.meaning.specs.Statement.{refused}
+use Rattle.meaning.specs.Calls.{failed, passed}
+use Rattle.meaning.specs.Requests.{BareRequest}
 use Rattle.request_laws.specs.Calls.{Leaves}
 use Rattle.request_laws.proofs.CalledLaws.{called-by}
 use Rattle.bare_request.specs.Conversions.{outcomeOf}
@@ -10,10 +12,10 @@ use Rattle.bare_request.proofs.request_bare.Statement.{statement}
 use Rattle.bare_request.proofs.request_bare.Tie as tie
 
 returns : tie.Need-returns
-returns c = wrongLength (c .if1 .taken)
+returns c = called-by (refused 1 0) (failed (c .if1 .taken))
 
 returns-2 : tie.Need-returns-2
-returns-2 c = wrongRoom (c .before .if1 .left) (c .if2 .taken)
+returns-2 c = called-by (refused 2 0) (passed (c .before .if1 .left) (failed (c .if2 .taken)))
 
 answer-requires : tie.Need-answer-requires
 answer-requires c κs = search needs
@@ -29,7 +31,8 @@ returns-3 c =
     let answered = c .before .before .before .before in
     let given = answered .before .before .before .before .before .args in
     subst (Leaves (BareRequest binary64) (given .input .now) (given .output .now)) (c .before .before .finish .ensures)
-    (called-by (outcomeOf (answered .answer .result)) (answered .before .before .if1 .left) (answered .before .if2 .left) (answered .answer .ensures))
+    (called-by (outcomeOf (answered .answer .result))
+    (passed (answered .before .before .if1 .left) (passed (answered .before .if2 .left) (answered .answer .ensures))))
 
 pub request-bare-spec : {M : Type 1} → statement M
 request-bare-spec =

@@ -1,18 +1,12 @@
 -- `bench::main` is safe and ends: each turn leaves fewer bytes to take.
-use mathlib.Core.Path.{_≡_}
-use Prim.Native.Nat.{_*_, _<_, _≤_}
 use borrow.Author.Needs.{needs}
 use borrow.Author.Tests.{not-false}
-use lib.ListN.{length}
-use Rattle.request_laws.specs.Chunk.{requestSize, replySize}
-use Rattle.bench_run.specs.Limit.{most}
-use Rattle.bench.specs.Runs.{room, bytesLeft}
+use Rattle.bench.specs.Runs.{Ready, bytesLeft}
 use Rattle.bench.proofs.main.Statement.{statement}
 use Rattle.bench.proofs.main.Tie as tie
 
 abbrev Inv-loop : tie.InvT-loop
-Inv-loop input₀ output₀ run₀ input output run =
-    (length input ≡ requestSize * room) × (length output ≡ replySize * room) × (run .answered ≤ most) × (run .answered < most → run .held < requestSize)
+Inv-loop input₀ output₀ run₀ input output run = Ready (run .held) (run .answered) input output
 
 abbrev μ-loop : tie.MeasureT-loop
 μ-loop input₀ output₀ run₀ input output run = bytesLeft (run .held) (run .answered)
@@ -27,27 +21,18 @@ slice-aggregate-answer-some-2 : tie.Need-slice-aggregate-answer-some-2 Inv-loop 
 slice-aggregate-answer-some-2 c = search needs
 
 answer-some-requires : tie.Need-answer-some-requires Inv-loop μ-loop
-answer-some-requires c κs =
-    let at-loop = c .before .before .before .before in
-    record { fewer = search needs; short = at-loop .loop .inv .3 (search needs); inputRoom = search needs; outputRoom = search needs }
+answer-some-requires c κs = search needs
 
 returns : tie.Need-returns Inv-loop μ-loop
 returns c = search needs
 
 loop-less : tie.Need-loop-less Inv-loop μ-loop
-loop-less c = c .before .before .before .before .answer-some .ensures (not-false _ (c .if2 .left)) .falls
+loop-less c = c .before .before .before .before .answer-some .ensures (not-false _ (c .if1 .left)) .falls
 
 loop-again : tie.Need-loop-again Inv-loop μ-loop
 loop-again c =
-    let answered = c .before .before .before .before .answer-some in
-    let onward = answered .ensures (not-false _ (c .if2 .left)) in
-    (search needs, search needs, onward .few, onward .short)
-
-answer-excess-requires : tie.Need-answer-excess-requires Inv-loop μ-loop
-answer-excess-requires c κs = search needs
-
-returns-2 : tie.Need-returns-2 Inv-loop μ-loop
-returns-2 c = search needs
+    let onward = c .before .before .before .before .answer-some .ensures (not-false _ (c .if1 .left)) in
+    record { few = onward .few; short = onward .short; full = onward .full; inputRoom = search needs; outputRoom = search needs }
 
 pub main-spec : {M : Type 1} → statement M
 main-spec =
@@ -61,6 +46,4 @@ main-spec =
     answer-some-requires
     returns
     loop-less
-    loop-again
-    answer-excess-requires
-    returns-2)
+    loop-again)

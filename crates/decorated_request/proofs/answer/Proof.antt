@@ -4,7 +4,7 @@ use borrow.Author.Needs.{needs}
 use Rattle.meaning.specs.Requests.{unary, binary, overlap, secondOperand, decoratedSize}
 use Rattle.operations.specs.Names.{unaryOf, binaryOf}
 use Rattle.operations.proofs.AskedLaws.{one-asked, two-asked, overlap-asked, nothing-asked}
-use Rattle.request_laws.specs.Calls.{failed}
+use Rattle.meaning.specs.Calls.{failed}
 use Rattle.request_laws.proofs.RequestedLaws.{requested}
 use Rattle.decorated_request.specs.Conversions.{outcomeOf}
 use Rattle.decorated_request.proofs.answer.Statement.{statement}

@@ -32,7 +32,7 @@ abbrev μ-loop : tie.MeasureT-loop
 μ-loop o a b out₀ k₀ out k = length a - k
 
 loop-holds : tie.Need-loop-holds Inv-loop μ-loop
-loop-holds c = (omega arith, c .before .before .before .pre .answers, below-none _)
+loop-holds c = (omega arith, c .before .before .before .pre .1, below-none _)
 
 mul-rounded : tie.Need-mul-rounded Inv-loop μ-loop
 mul-rounded c = search needs
@@ -49,7 +49,7 @@ shared-slice-read-rounded-2 c = search needs
 rounded-requires : tie.Need-rounded-requires Inv-loop μ-loop
 rounded-requires c κs =
     let at-loop = c .before .before .before in
-    at-loop .before .before .before .before .pre .takes (at-loop .loop .k) (omega arith)
+    at-loop .before .before .before .before .pre .2 (at-loop .loop .k) (omega arith)
 
 mul-out : tie.Need-mul-out Inv-loop μ-loop
 mul-out c = search needs

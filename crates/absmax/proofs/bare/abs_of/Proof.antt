@@ -3,7 +3,7 @@ use mathlib.Core.Path.{subst⁻¹}
 use Rattle.patterns.specs.Format.{binary64}
 use Rattle.meaning.specs.Pairs.{Bare}
 use Rattle.meaning.specs.Statement.{HullOf}
-use Rattle.operands.proofs.MirrorLaws.{mirror-bare}
+use Rattle.end_pairs.proofs.MirrorLaws.{mirror-bare}
 use Rattle.absmax.proofs.Absolute.{kept-hull, turned-hull, straddling-hull}
 use Rattle.absmax.proofs.Classes.{kept-positive, turned-negative}
 use Rattle.absmax.proofs.bare.abs_of.Statement.{statement}
@@ -12,8 +12,8 @@ use Rattle.absmax.proofs.bare.abs_of.Tie as tie
 classify-requires : tie.Need-classify-requires
 classify-requires c κs = c .pre
 
-tidy-requires : tie.Need-tidy-requires
-tidy-requires c κs = c .before .before .pre
+canonical-requires : tie.Need-canonical-requires
+canonical-requires c κs = c .before .before .pre
 
 enum-told : tie.Need-enum-told
 enum-told c = c .match .keys2
@@ -30,13 +30,13 @@ outward-requires c κs = tt
 mirrored-requires : tie.Need-mirrored-requires
 mirrored-requires c κs = tt
 
-tidy-requires-2 : tie.Need-tidy-requires-2
-tidy-requires-2 c κs = subst⁻¹ (Bare binary64) (c .mirrored .ensures) (mirror-bare binary64 _ (c .before .before .before .pre))
+canonical-requires-2 : tie.Need-canonical-requires-2
+canonical-requires-2 c κs = subst⁻¹ (Bare binary64) (c .mirrored .ensures) (mirror-bare binary64 _ (c .before .before .before .pre))
 
 returns : tie.Need-returns
 returns c =
     let found = c .before .before in
-    kept-hull binary64 _ _ (c .tidy .ensures) (kept-positive (found .classify .result) (c .before .match .keys1) (found .classify .ensures))
+    kept-hull binary64 _ _ (c .canonical .ensures) (kept-positive (found .classify .result) (c .before .match .keys1) (found .classify .ensures))
 
 returns-2 : tie.Need-returns-2
 returns-2 c =
@@ -49,11 +49,11 @@ returns-2 c =
 returns-3 : tie.Need-returns-3
 returns-3 c =
     let found = c .before .before .before in
-    turned-hull binary64 _ _ (found .before .pre) (rw (c .before .mirrored .ensures) at (c .tidy2 .ensures))
+    turned-hull binary64 _ _ (found .before .pre) (rw (c .before .mirrored .ensures) at (c .canonical2 .ensures))
     (turned-negative (found .classify .result) (c .before .before .match .keys3) (found .classify .ensures))
 
 pub abs-of-spec : {M : Type 1} → statement M
 abs-of-spec =
     tie.close
-    (tie.spec classify-requires tidy-requires enum-told opposite-requires greater-requires outward-requires mirrored-requires tidy-requires-2
+    (tie.spec classify-requires canonical-requires enum-told opposite-requires greater-requires outward-requires mirrored-requires canonical-requires-2
     returns returns-2 returns-3)

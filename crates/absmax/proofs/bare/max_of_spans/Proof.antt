@@ -12,8 +12,8 @@ greater-requires c κs = tt
 greater-requires-2 : tie.Need-greater-requires-2
 greater-requires-2 c κs = tt
 
-tidy-requires : tie.Need-tidy-requires
-tidy-requires c κs =
+canonical-requires : tie.Need-canonical-requires
+canonical-requires c κs =
     let (x, y) = c .before .before .pre in
     inl (exact-proper binary64 _ (max-exact binary64 (span-of binary64 _ x) (span-of binary64 _ y) (c .before .greater .ensures) (c .greater2 .ensures)))
 
@@ -22,7 +22,7 @@ returns c =
     let (x, y) = c .before .before .before .pre in
     exact-answer binary64
     (max-exact binary64 (span-of binary64 _ x) (span-of binary64 _ y) (c .before .before .greater .ensures) (c .before .greater2 .ensures))
-    (c .tidy .ensures)
+    (c .canonical .ensures)
 
 pub max-of-spans-spec : {M : Type 1} → statement M
-max-of-spans-spec = tie.close (tie.spec greater-requires greater-requires-2 tidy-requires returns)
+max-of-spans-spec = tie.close (tie.spec greater-requires greater-requires-2 canonical-requires returns)

@@ -12,8 +12,8 @@ lesser-requires c κs = tt
 lesser-requires-2 : tie.Need-lesser-requires-2
 lesser-requires-2 c κs = tt
 
-tidy-requires : tie.Need-tidy-requires
-tidy-requires c κs =
+canonical-requires : tie.Need-canonical-requires
+canonical-requires c κs =
     let (x, y) = c .before .before .pre in
     inl (exact-proper binary64 _ (min-exact binary64 (span-of binary64 _ x) (span-of binary64 _ y) (c .before .lesser .ensures) (c .lesser2 .ensures)))
 
@@ -22,7 +22,7 @@ returns c =
     let (x, y) = c .before .before .before .pre in
     exact-answer binary64
     (min-exact binary64 (span-of binary64 _ x) (span-of binary64 _ y) (c .before .before .lesser .ensures) (c .before .lesser2 .ensures))
-    (c .tidy .ensures)
+    (c .canonical .ensures)
 
 pub min-of-spans-spec : {M : Type 1} → statement M
-min-of-spans-spec = tie.close (tie.spec lesser-requires lesser-requires-2 tidy-requires returns)
+min-of-spans-spec = tie.close (tie.spec lesser-requires lesser-requires-2 canonical-requires returns)

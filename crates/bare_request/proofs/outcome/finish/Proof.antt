@@ -3,7 +3,7 @@ use mathlib.Core.Path.{_∙_, ap}
 use Prim.Native.Nat.{ℕ}
 use borrow.Author.Needs.{needs}
 use Rattle.meaning.specs.Requests.{writeState}
-use Rattle.request_laws.specs.Calls.{leftBy}
+use Rattle.meaning.specs.Calls.{leftBy}
 use Rattle.bare_request.specs.Conversions.{outcomeOf}
 use Rattle.bare_request.specs.declared.outcome.Outcome.{Outcome}
 use Rattle.request_laws.proofs.RequestedLaws.{left-given}

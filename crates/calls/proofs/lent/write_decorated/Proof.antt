@@ -4,7 +4,7 @@ use mathlib.Core.List.{[], _∷_, _++_}
 use Prim.Native.Nat.{ℕ}
 use borrow.Author.Needs.{needs}
 use Rattle.meaning.specs.Bytes.{writePair}
-use Rattle.interval.specs.Conversions.{decPairOf}
+use Rattle.dec_interval.specs.Conversions.{decPairOf}
 use Rattle.end_bytes.specs.Conversions.{orderOf}
 use Rattle.end_bytes.proofs.PlaceLaws.{length-pair}
 use Rattle.calls.proofs.PlaceLaws.{last-byte}

@@ -5,19 +5,22 @@ use borrow.Author.Needs.{needs}
 use lib.Seq.{take-all}
 use Rattle.patterns.specs.Format.{binary64}
 use Rattle.meaning.specs.Bytes.{writePair}
-use Rattle.meaning.specs.Requests.{wrongLength, wrongRoom, BareCodec}
+use Rattle.meaning.specs.Statement.{refused}
+use Rattle.meaning.specs.Calls.{failed, passed}
+use Rattle.meaning.specs.Requests.{BareCodec}
 use Rattle.interval.specs.Conversions.{outcome}
 use Rattle.end_bytes.specs.Conversions.{orderOf}
+use Rattle.request_laws.proofs.CalledLaws.{called-by}
 use Rattle.request_laws.proofs.ReadLaws.{found₁}
 use Rattle.codecs.proofs.CodecLaws.{recoded, not-recoded}
 use Rattle.codecs.proofs.bare.recode.Statement.{statement}
 use Rattle.codecs.proofs.bare.recode.Tie as tie
 
 returns : tie.Need-returns
-returns c = wrongLength (c .if1 .taken)
+returns c = called-by (refused 1 0) (failed (c .if1 .taken))
 
 returns-2 : tie.Need-returns-2
-returns-2 c = wrongRoom (c .before .if1 .left) (c .if2 .taken)
+returns-2 c = called-by (refused 2 0) (passed (c .before .if1 .left) (failed (c .if2 .taken)))
 
 bare-at-requires : tie.Need-bare-at-requires
 bare-at-requires c κs = search needs

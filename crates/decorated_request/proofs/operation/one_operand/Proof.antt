@@ -1,6 +1,6 @@
 -- `operation::one_operand` meets its contract: a sound operand is answered, and any other refused.
 use Rattle.meaning.specs.Bytes.{bigEndian, writeDecorated}
-use Rattle.interval.specs.Conversions.{decOutcome}
+use Rattle.dec_interval.specs.Conversions.{decOutcome}
 use Rattle.request_laws.proofs.ReadLaws.{found₁, after₁, refused₁}
 use Rattle.decorated_request.specs.Conversions.{outcomeOf}
 use Rattle.decorated_request.proofs.SoundOperands.{one-sound, write₁}

@@ -3,8 +3,8 @@ use mathlib.Core.Path.{subst⁻¹}
 use Rattle.patterns.specs.Format.{binary64, infinity, signBit}
 use Rattle.meaning.specs.Pairs.{minusInfinity}
 use Rattle.flags.proofs.AnswerLaws.{said-yes, said-no}
-use Rattle.operands.proofs.EmptyLaws.{not-empty, empty-hull₁}
-use Rattle.operands.proofs.MirrorLaws.{mirror-proper}
+use Rattle.end_pairs.proofs.EmptyLaws.{not-empty, empty-hull₁}
+use Rattle.end_pairs.proofs.MirrorLaws.{mirror-proper}
 use Rattle.wholes.specs.Made.{operation}
 use Rattle.integer.specs.Rising.{Upper}
 use Rattle.integer.proofs.RisingLaws.{image-hull}

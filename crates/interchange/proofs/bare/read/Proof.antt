@@ -1,5 +1,5 @@
 -- `bare::read` meets its contract: the ends that were read are answered if they are canonical.
-use mathlib.Core.Path.{subst, subst⁻¹}
+use mathlib.Core.Path.{_∙_, subst, subst⁻¹}
 use borrow.Author.Needs.{needs}
 use Rattle.patterns.specs.Format.{binary64}
 use Rattle.meaning.specs.Pairs.{Canonical}
@@ -18,10 +18,14 @@ read-ends-requires c κs = search needs
 is-canonical-requires : tie.Need-is-canonical-requires
 is-canonical-requires c κs = tt
 
+from-ends-requires : tie.Need-from-ends-requires
+from-ends-requires c κs = said-yes (c .before .is-canonical .ensures) (c .if1 .taken) .bare
+
 returns : tie.Need-returns
 returns c =
-    let read = c .before .before .read-ends .ensures in
-    right₁ (bytesGood (subst (Canonical binary64) read (said-yes (c .before .is-canonical .ensures) (c .if1 .taken)))) read
+    let read = c .before .before .before .read-ends .ensures in
+    right₁ (bytesGood (subst (Canonical binary64) read (said-yes (c .before .before .is-canonical .ensures) (c .before .if1 .taken))))
+    (c .from-ends .ensures ∙ read)
 
 returns-2 : tie.Need-returns-2
 returns-2 c =
@@ -31,4 +35,4 @@ returns-2 c =
 pub read-spec : {M : Type 1} → statement M
 read-spec =
     tie.close
-    (tie.spec slice-aggregate-read-ends read-ends-requires is-canonical-requires returns returns-2)
+    (tie.spec slice-aggregate-read-ends read-ends-requires is-canonical-requires from-ends-requires returns returns-2)

@@ -17,8 +17,8 @@ enum-told c = c .match .keys1
 slice-aggregate-write-ends : tie.Need-slice-aggregate-write-ends
 slice-aggregate-write-ends c = search needs
 
-tidy-requires : tie.Need-tidy-requires
-tidy-requires c κs = sound-bare (judged-sound (JudgedBare binary64) (c .before .before .before .judge .ensures) (c .before .enum-told .given .1))
+canonical-requires : tie.Need-canonical-requires
+canonical-requires c κs = sound-bare (judged-sound (JudgedBare binary64) (c .before .before .before .judge .ensures) (c .before .enum-told .given .1))
 
 write-ends-requires : tie.Need-write-ends-requires
 write-ends-requires c κs = search needs
@@ -33,7 +33,7 @@ returns c =
       outcome = given _;
       right =
           right₁ (judged-sound (JudgedBare binary64) (k .before .before .judge .ensures) (k .enum-told .given .1))
-          (record { answer = _; right = c .before .before .tidy .ensures; written = c .before .write-ends .ensures ∙ append-nil _ });
+          (record { answer = _; right = c .before .before .canonical .ensures; written = c .before .write-ends .ensures ∙ append-nil _ });
       is = refl;
     }
 
@@ -52,7 +52,7 @@ write-spec =
     judge-requires
     enum-told
     slice-aggregate-write-ends
-    tidy-requires
+    canonical-requires
     write-ends-requires
     enum-known-n
     returns

@@ -3,7 +3,8 @@ use borrow.Author.Tests.{not-true, not-false}
 use Rattle.patterns.specs.Format.{binary64}
 use Rattle.meaning.specs.Statement.{first₁, right₁, JudgedDecorated}
 use Rattle.flags.proofs.AnswerLaws.{said-yes, said-no}
-use Rattle.interval.proofs.StatementLaws.{judged-sound, judged-wrong, sound-agrees}
+use Rattle.interval.proofs.StatementLaws.{judged-sound, judged-wrong}
+use Rattle.decorations.proofs.AgreeLaws.{sound-agrees}
 use Rattle.interchange.specs.Reading.{readFive, readGood}
 use Rattle.interchange.proofs.ReadLaws.{wrong-read}
 use Rattle.interchange.proofs.decorated.answer_read.Statement.{statement}
@@ -22,7 +23,7 @@ enum-told : tie.Need-enum-told
 enum-told c = c .match .keys1
 
 read-as-requires : tie.Need-read-as-requires
-read-as-requires c κs = tt
+read-as-requires c κs = said-yes (c .before .before .before .before .has-bytes-ends .ensures) (not-false _ (c .before .before .before .if1 .left))
 
 enum-known-n : tie.Need-enum-known-n
 enum-known-n c = c .match .keys2

@@ -1,11 +1,7 @@
 -- `decorated::read` meets its contract: the byte is judged before the ends and the decoration.
-use mathlib.Core.Path.{subst}
 use borrow.Author.Needs.{needs}
-use Rattle.patterns.specs.Format.{binary64}
-use Rattle.meaning.specs.Statement.{DecPair, Answered₁, first₁}
+use Rattle.meaning.specs.Statement.{first₁}
 use Rattle.meaning.specs.Bytes.{bytesFour}
-use Rattle.interval.specs.Conversions.{decOutcome}
-use Rattle.interchange.specs.Reading.{JudgedRead, ReadAs}
 use Rattle.interchange.proofs.ReadLaws.{known, unknown, read-known}
 use Rattle.interchange.proofs.decorated.read.Statement.{statement}
 use Rattle.interchange.proofs.decorated.read.Tie as tie
@@ -19,8 +15,11 @@ decoration-of-requires c κs = tt
 enum-known-d : tie.Need-enum-known-d
 enum-known-d c = c .match .keys1
 
-read-with-requires : tie.Need-read-with-requires
-read-with-requires c κs = tt
+slice-aggregate-read-ends : tie.Need-slice-aggregate-read-ends
+slice-aggregate-read-ends c = search needs
+
+read-ends-requires : tie.Need-read-ends-requires
+read-ends-requires c κs = search needs
 
 answer-read-requires : tie.Need-answer-read-requires
 answer-read-requires c κs = tt
@@ -30,9 +29,11 @@ enum-told c = c .match .keys2
 
 returns : tie.Need-returns
 returns c =
-    read-known (record { is = known (c .before .before .before .before .before .decoration-of .ensures) (c .before .before .before .d .given .1) })
-    (subst (λ (x : DecPair). Answered₁ (JudgedRead binary64) (ReadAs binary64) x (decOutcome (c .answer-read .result)))
-    (c .before .read-with .ensures) (c .answer-read .ensures))
+    read-known
+    (record {
+      is = known (c .before .before .before .before .before .before .decoration-of .ensures) (c .before .before .before .before .d .given .1);
+    })
+    (c .before .read-ends .ensures) (c .answer-read .ensures)
 
 returns-2 : tie.Need-returns-2
 returns-2 c = first₁ (bytesFour (λ d s. unknown (c .before .before .decoration-of .ensures) (c .enum-told .given .1) d (s .is)))
@@ -44,7 +45,8 @@ read-spec =
     array-read-decoration-of
     decoration-of-requires
     enum-known-d
-    read-with-requires
+    slice-aggregate-read-ends
+    read-ends-requires
     answer-read-requires
     enum-told
     returns

@@ -7,7 +7,8 @@ use Rattle.patterns.specs.Format.{binary64}
 use Rattle.meaning.specs.Statement.{refused, given, right₁, JudgedDecorated}
 use Rattle.meaning.specs.Bytes.{writePair}
 use Rattle.interval.specs.Conversions.{pairOf}
-use Rattle.interval.proofs.StatementLaws.{judged-sound, answered-wrong, sound-ends}
+use Rattle.interval.proofs.StatementLaws.{judged-sound, answered-wrong}
+use Rattle.decorations.proofs.AgreeLaws.{sound-ends}
 use Rattle.end_bytes.specs.Conversions.{orderOf}
 use Rattle.end_bytes.proofs.PlaceLaws.{placed-byte}
 use Rattle.interchange.proofs.decorated.write.Statement.{statement}
@@ -19,8 +20,8 @@ judge-dec-requires c κs = tt
 enum-told : tie.Need-enum-told
 enum-told c = c .match .keys1
 
-tidy-dec-requires : tie.Need-tidy-dec-requires
-tidy-dec-requires c κs = sound-ends (judged-sound (JudgedDecorated binary64) (c .before .before .judge-dec .ensures) (c .enum-told .given .1))
+canonical-dec-requires : tie.Need-canonical-dec-requires
+canonical-dec-requires c κs = sound-ends (judged-sound (JudgedDecorated binary64) (c .before .before .judge-dec .ensures) (c .enum-told .given .1))
 
 slice-aggregate-write-ends : tie.Need-slice-aggregate-write-ends
 slice-aggregate-write-ends c = search needs
@@ -42,14 +43,14 @@ returns c =
     let z = c .before .before .before .before .before in
     let k = z .before in
     let o = orderOf (k .before .before .before .args .order) in
-    let p = pairOf (z .tidy-dec .result .x) in
+    let p = pairOf (z .canonical-dec .result .x) in
     record {
       outcome = given _;
       right =
           right₁ (judged-sound (JudgedDecorated binary64) (k .before .before .judge-dec .ensures) (k .enum-told .given .1))
           (record {
             answer = _;
-            right = z .tidy-dec .ensures;
+            right = z .canonical-dec .ensures;
             written =
                 placed-byte o p (c .decoration-byte .result) _ (c .before .before .write-ends .ensures)
                 ∙ ap (λ (d : ℕ). writePair o p ++ (d ∷ [])) (c .decoration-byte .ensures);
@@ -71,7 +72,7 @@ write-spec =
     (tie.spec
     judge-dec-requires
     enum-told
-    tidy-dec-requires
+    canonical-dec-requires
     slice-aggregate-write-ends
     write-ends-requires
     decoration-byte-requires

@@ -1,7 +1,7 @@
 -- `sound::two_operands` meets its contract: each sound operand is NaI or an interval.
 use mathlib.Core.Logic.{inl, inr, ⊎-elim}
 use Rattle.patterns.specs.Format.{binary64}
-use Rattle.interval.specs.Conversions.{decorationOf}
+use Rattle.decorations.specs.Conversions.{decorationOf}
 use Rattle.flags.proofs.AnswerLaws.{said-yes, said-no}
 use Rattle.operands.specs.Sorted.{sortedNaI, sortedIntervals}
 use Rattle.operands.proofs.SortedLaws.{sound-bare, sound-not-ill, lower-not-ill}

@@ -1,46 +1,19 @@
--- `bare::image` meets its contract: each name has its function.
+-- `bare::image` meets its contract: the interval is made of the ends of the results.
+use mathlib.Core.Path.{subst⁻¹}
 use borrow.Author.Needs.{needs}
-use Rattle.operations.proofs.NameLaws.{image-named}
+use Rattle.patterns.specs.Format.{binary64}
+use Rattle.meaning.specs.Statement.{HullOf}
 use Rattle.operations.proofs.bare.image.Statement.{statement}
 use Rattle.operations.proofs.bare.image.Tie as tie
 
-enum-told : tie.Need-enum-told
-enum-told c = c .match .keys1
+image-ends-requires : tie.Need-image-ends-requires
+image-ends-requires c κs = search needs
 
-neg-of-requires : tie.Need-neg-of-requires
-neg-of-requires c κs = search needs
-
-enum-told-2 : tie.Need-enum-told-2
-enum-told-2 c = c .match .keys2
-
-abs-of-requires : tie.Need-abs-of-requires
-abs-of-requires c κs = search needs
-
-enum-known-f : tie.Need-enum-known-f
-enum-known-f c = c .match .keys3
-
-image-of-requires : tie.Need-image-of-requires
-image-of-requires c κs = search needs
+from-ends-requires : tie.Need-from-ends-requires
+from-ends-requires c κs = c .image-ends .ensures .canonical .bare
 
 returns : tie.Need-returns
-returns c = image-named (c .before .enum-told .given .1) _ (c .neg-of .ensures)
-
-returns-2 : tie.Need-returns-2
-returns-2 c = image-named (c .before .enum-told2 .given .1) _ (c .abs-of .ensures)
-
-returns-3 : tie.Need-returns-3
-returns-3 c = image-named (c .before .before .f .given .1) _ (c .image-of .ensures)
+returns c = subst⁻¹ (HullOf binary64 _) (c .from-ends .ensures) (c .before .image-ends .ensures)
 
 pub image-spec : {M : Type 1} → statement M
-image-spec =
-    tie.close
-    (tie.spec
-    enum-told
-    neg-of-requires
-    enum-told-2
-    abs-of-requires
-    enum-known-f
-    image-of-requires
-    returns
-    returns-2
-    returns-3)
+image-spec = tie.close (tie.spec image-ends-requires from-ends-requires returns)

@@ -12,7 +12,7 @@ binary-numbered-requires c κs = search needs
 
 unary-numbered-requires : tie.Need-unary-numbered-requires
 unary-numbered-requires c κs =
-    ⊎-elim (λ w. inl (w .keys1)) (λ w. inr (omega (arith, w .2 .left, w .3 .taken))) (c .match .came)
+    ⊎-elim (λ w. inl (w .keys1)) (λ w. inr (omega (arith, w .1 .left, w .2 .taken))) (c .match .came)
 
 returns : tie.Need-returns
 returns c = asksOverlap (c .match .keys2)
@@ -21,13 +21,13 @@ returns-2 : tie.Need-returns-2
 returns-2 c = asksTwo (c .binary-numbered .ensures)
 
 returns-3 : tie.Need-returns-3
-returns-3 c = asksNothing (λ q e. not-zero q (omega (arith, e, c .if1 .taken)))
+returns-3 c = asksOne (c .unary-numbered .ensures)
 
 returns-4 : tie.Need-returns-4
-returns-4 c = asksNothing (λ q e. not-large q (omega (arith, e, c .if3 .left, c .before .before .before .match .rest .1)))
+returns-4 c = asksNothing (λ q e. not-zero q (omega (arith, e, c .match .keys3)))
 
 returns-5 : tie.Need-returns-5
-returns-5 c = asksOne (c .unary-numbered .ensures)
+returns-5 c = asksNothing (λ q e. not-large q (omega (arith, e, c .if2 .left, c .before .before .match .rest)))
 
 pub numbered-spec : {M : Type 1} → statement M
 numbered-spec =

@@ -12,8 +12,8 @@ lesser-requires c κs = tt
 greater-requires : tie.Need-greater-requires
 greater-requires c κs = tt
 
-tidy-requires : tie.Need-tidy-requires
-tidy-requires c κs =
+canonical-requires : tie.Need-canonical-requires
+canonical-requires c κs =
     let (x, y) = c .before .before .pre in
     inl (exact-proper binary64 _ (hull-exact binary64 (span-of binary64 _ x) (span-of binary64 _ y) (c .before .lesser .ensures) (c .greater .ensures)))
 
@@ -22,7 +22,7 @@ returns c =
     let (x, y) = c .before .before .before .pre in
     exact-answer binary64
     (hull-exact binary64 (span-of binary64 _ x) (span-of binary64 _ y) (c .before .before .lesser .ensures) (c .before .greater .ensures))
-    (c .tidy .ensures)
+    (c .canonical .ensures)
 
 pub convex-hull-of-spans-spec : {M : Type 1} → statement M
-convex-hull-of-spans-spec = tie.close (tie.spec lesser-requires greater-requires tidy-requires returns)
+convex-hull-of-spans-spec = tie.close (tie.spec lesser-requires greater-requires canonical-requires returns)

@@ -18,8 +18,8 @@ lesser-requires c κs = tt
 less-or-equal-requires : tie.Need-less-or-equal-requires
 less-or-equal-requires c κs = tt
 
-tidy-requires : tie.Need-tidy-requires
-tidy-requires c κs =
+canonical-requires : tie.Need-canonical-requires
+canonical-requires c κs =
     let chosen = c .before .before in
     let (x, y) = chosen .before .before .pre in
     inl
@@ -34,7 +34,7 @@ returns c =
     exact-answer binary64
     (intersection-exact binary64 (chosen .before .greater .ensures) (chosen .lesser .ensures) (span-of binary64 _ x) (span-of binary64 _ y)
     (said-yes (c .before .before .less-or-equal .ensures) (c .before .if1 .taken)))
-    (c .tidy .ensures)
+    (c .canonical .ensures)
 
 returns-2 : tie.Need-returns-2
 unfolding infinity signBit minusInfinity
@@ -47,4 +47,4 @@ returns-2 c =
 
 pub intersection-of-spans-spec : {M : Type 1} → statement M
 intersection-of-spans-spec =
-    tie.close (tie.spec greater-requires lesser-requires less-or-equal-requires tidy-requires returns returns-2)
+    tie.close (tie.spec greater-requires lesser-requires less-or-equal-requires canonical-requires returns returns-2)

@@ -12,8 +12,8 @@ judge-requires c κs = tt
 enum-told : tie.Need-enum-told
 enum-told c = c .match .keys1
 
-tidy-requires : tie.Need-tidy-requires
-tidy-requires c κs = sound-bare (judged-sound (JudgedBare binary64) (c .before .before .judge .ensures) (c .enum-told .given .1))
+canonical-requires : tie.Need-canonical-requires
+canonical-requires c κs = sound-bare (judged-sound (JudgedBare binary64) (c .before .before .judge .ensures) (c .enum-told .given .1))
 
 enum-known-n : tie.Need-enum-known-n
 enum-known-n c = c .match .keys2
@@ -21,11 +21,11 @@ enum-known-n c = c .match .keys2
 returns : tie.Need-returns
 returns c =
     right₁ (judged-sound (JudgedBare binary64) (c .before .before .before .judge .ensures) (c .before .enum-told .given .1))
-    (record { tidied = _; is = c .tidy .ensures; lower = refl })
+    (record { tidied = _; is = c .canonical .ensures; lower = refl })
 
 returns-2 : tie.Need-returns-2
 returns-2 c = answered-wrong (JudgedBare binary64) (c .before .before .before .judge .ensures) (c .before .n .given .1)
 
 pub inf-spec : {M : Type 1} → statement M
 inf-spec =
-    tie.close (tie.spec judge-requires enum-told tidy-requires enum-known-n returns returns-2)
+    tie.close (tie.spec judge-requires enum-told canonical-requires enum-known-n returns returns-2)

@@ -1,30 +1,30 @@
--- `Interval::try_from` meets its contract: what is found wrong is refused, and a sound operand answered.
+-- `Interval::try_from` meets its contract: ends that are no interval's are refused, and others answered with their zeros as the
+-- bytes have them.
+use mathlib.Core.Path.{subst⁻¹}
 use Rattle.patterns.specs.Format.{binary64}
-use Rattle.meaning.specs.Statement.{JudgedBare, right₁}
-use Rattle.interval.proofs.StatementLaws.{judged-sound, answered-wrong, sound-bare}
+use Rattle.meaning.specs.Statement.{first₁, right₁, bareFive, bareGood}
+use Rattle.meaning.specs.Bytes.{Tidied}
+use Rattle.flags.proofs.AnswerLaws.{said-yes, said-no}
 use Rattle.interval.proofs.types.Interval.try_from.Statement.{statement}
 use Rattle.interval.proofs.types.Interval.try_from.Tie as tie
 
-judge-requires : tie.Need-judge-requires
-judge-requires c κs = tt
+is-bare-requires : tie.Need-is-bare-requires
+is-bare-requires c κs = tt
 
-enum-told : tie.Need-enum-told
-enum-told c = c .match .keys1
+canonical-requires : tie.Need-canonical-requires
+canonical-requires c κs = said-yes (c .before .is-bare .ensures) (c .if1 .taken)
 
-tidy-requires : tie.Need-tidy-requires
-tidy-requires c κs = sound-bare (judged-sound (JudgedBare binary64) (c .before .before .judge .ensures) (c .enum-told .given .1))
-
-enum-known-n : tie.Need-enum-known-n
-enum-known-n c = c .match .keys2
+from-ends-requires : tie.Need-from-ends-requires
+from-ends-requires c κs = c .canonical .ensures .canonical .bare
 
 returns : tie.Need-returns
 returns c =
-    right₁ (judged-sound (JudgedBare binary64) (c .before .before .before .judge .ensures) (c .before .enum-told .given .1))
-    (c .tidy .ensures)
+    right₁ (bareGood (said-yes (c .before .before .before .is-bare .ensures) (c .before .before .if1 .taken)))
+    (subst⁻¹ (Tidied binary64 _) (c .from-ends .ensures) (c .before .canonical .ensures))
 
 returns-2 : tie.Need-returns-2
-returns-2 c = answered-wrong (JudgedBare binary64) (c .before .before .before .judge .ensures) (c .before .n .given .1)
+returns-2 c = first₁ (bareFive (said-no (c .before .is-bare .ensures) (c .if1 .left)))
 
 pub try-from-spec : {M : Type 1} → statement M
 try-from-spec =
-    tie.close (tie.spec judge-requires enum-told tidy-requires enum-known-n returns returns-2)
+    tie.close (tie.spec is-bare-requires canonical-requires from-ends-requires returns returns-2)

@@ -1,0 +1,89 @@
+-- `product::product_at` meets its contract: each arm works out the corner that it names.
+use borrow.Author.Needs.{needs}
+use Rattle.patterns.specs.Format.{binary64, infinity}
+use Rattle.points.proofs.Exactly.{exact-infinity}
+use Rattle.arith_ends.proofs.EndLaws.{zero-end}
+use Rattle.arith_ends.proofs.product.product_at.Statement.{statement}
+use Rattle.arith_ends.proofs.product.product_at.Tie as tie
+
+enum-told : tie.Need-enum-told
+enum-told c = search needs
+
+product-end-requires : tie.Need-product-end-requires
+product-end-requires c κs = search needs
+
+enum-told-2 : tie.Need-enum-told-2
+enum-told-2 c = search needs
+
+product-end-requires-2 : tie.Need-product-end-requires-2
+product-end-requires-2 c κs = search needs
+
+enum-told-3 : tie.Need-enum-told-3
+enum-told-3 c = search needs
+
+product-end-requires-3 : tie.Need-product-end-requires-3
+product-end-requires-3 c κs = search needs
+
+enum-told-4 : tie.Need-enum-told-4
+enum-told-4 c = search needs
+
+product-end-requires-4 : tie.Need-product-end-requires-4
+product-end-requires-4 c κs = search needs
+
+enum-told-5 : tie.Need-enum-told-5
+enum-told-5 c = search needs
+
+greater-product-requires : tie.Need-greater-product-requires
+greater-product-requires c κs = search needs
+
+enum-told-6 : tie.Need-enum-told-6
+enum-told-6 c = search needs
+
+enum-told-7 : tie.Need-enum-told-7
+enum-told-7 c = search needs
+
+returns : tie.Need-returns
+returns c = rw (c .before .enum-told .given .1) (c .product-end .ensures)
+
+returns-2 : tie.Need-returns-2
+returns-2 c = rw (c .before .enum-told2 .given .1) (c .product-end2 .ensures)
+
+returns-3 : tie.Need-returns-3
+returns-3 c = rw (c .before .enum-told3 .given .1) (c .product-end3 .ensures)
+
+returns-4 : tie.Need-returns-4
+returns-4 c = rw (c .before .enum-told4 .given .1) (c .product-end4 .ensures)
+
+returns-5 : tie.Need-returns-5
+returns-5 c = rw (c .before .enum-told5 .given .1) (c .greater-product .ensures)
+
+returns-6 : tie.Need-returns-6
+returns-6 c = rw (c .enum-told6 .given .1) (zero-end binary64)
+
+returns-7 : tie.Need-returns-7
+unfolding infinity
+returns-7 c = rw (c .enum-told7 .given .1) (exact-infinity binary64)
+
+pub product-at-spec : {M : Type 1} → statement M
+product-at-spec =
+    tie.close
+    (tie.spec
+    enum-told
+    product-end-requires
+    enum-told-2
+    product-end-requires-2
+    enum-told-3
+    product-end-requires-3
+    enum-told-4
+    product-end-requires-4
+    enum-told-5
+    greater-product-requires
+    enum-told-6
+    enum-told-7
+    returns
+    returns-2
+    returns-3
+    returns-4
+    returns-5
+    returns-6
+    returns-7)

@@ -1,0 +1,62 @@
+-- `DecInterval::interval` meets its contract: what is found wrong is refused, and a sound operand answered.
+use mathlib.Core.Path.{subst⁻¹}
+use Rattle.patterns.specs.Format.{binary64}
+use Rattle.meaning.specs.Statement.{JudgedDecorated, right₁}
+use Rattle.meaning.specs.Bytes.{Tidied}
+use Rattle.dec_interval.specs.Values.{isPart, isMissing}
+use Rattle.flags.proofs.AnswerLaws.{said-yes, said-no}
+use Rattle.end_pairs.proofs.KindLaws.{only-bare}
+use Rattle.interval.proofs.StatementLaws.{judged-sound, answered-wrong}
+use Rattle.decorations.proofs.AgreeLaws.{sound-ends}
+use Rattle.dec_interval.proofs.types.DecInterval.interval.Statement.{statement}
+use Rattle.dec_interval.proofs.types.DecInterval.interval.Tie as tie
+
+judge-dec-requires : tie.Need-judge-dec-requires
+judge-dec-requires c κs = tt
+
+enum-told : tie.Need-enum-told
+enum-told c = c .match .keys1
+
+are-nans-requires : tie.Need-are-nans-requires
+are-nans-requires c κs = tt
+
+returns : tie.Need-returns
+returns c =
+    right₁ (judged-sound (JudgedDecorated binary64) (c .before .before .before .before .before .judge-dec .ensures) (c .before .before .before .enum-told .given .1))
+    (isMissing (said-yes (c .before .are-nans .ensures) (c .if1 .taken)))
+
+canonical-requires : tie.Need-canonical-requires
+canonical-requires c κs =
+    only-bare binary64
+    (sound-ends (judged-sound (JudgedDecorated binary64) (c .before .before .before .before .before .judge-dec .ensures) (c .before .before .before .enum-told .given .1)))
+    (said-no (c .before .are-nans .ensures) (c .if1 .left))
+
+from-ends-requires : tie.Need-from-ends-requires
+from-ends-requires c κs = c .canonical .ensures .canonical .bare
+
+enum-known-n : tie.Need-enum-known-n
+enum-known-n c = c .match .keys2
+
+returns-2 : tie.Need-returns-2
+returns-2 c =
+    right₁
+    (judged-sound (JudgedDecorated binary64) (c .before .before .before .before .before .before .before .judge-dec .ensures) (c .before .before .before .before .before .enum-told .given .1))
+    (isPart (said-no (c .before .before .before .are-nans .ensures) (c .before .before .if1 .left))
+    (subst⁻¹ (Tidied binary64 _) (c .from-ends .ensures) (c .before .canonical .ensures)))
+
+returns-3 : tie.Need-returns-3
+returns-3 c = answered-wrong (JudgedDecorated binary64) (c .before .before .before .judge-dec .ensures) (c .before .n .given .1)
+
+pub interval-spec : {M : Type 1} → statement M
+interval-spec =
+    tie.close
+    (tie.spec
+    judge-dec-requires
+    enum-told
+    are-nans-requires
+    returns
+    canonical-requires
+    from-ends-requires
+    enum-known-n
+    returns-2
+    returns-3)

@@ -1,0 +1,4 @@
+-- Laws of decorations.
+pub mod AgreeLaws
+pub mod DecorationLaws
+pub mod Codes

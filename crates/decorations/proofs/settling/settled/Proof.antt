@@ -1,0 +1,26 @@
+-- `settling::settled` meets its contract: set_dec gives the lower of the two.
+use mathlib.Core.Path.{_∙_, ap}
+use borrow.Author.Needs.{needs}
+use Rattle.patterns.specs.Format.{binary64}
+use Rattle.meaning.specs.Pairs.{setOf}
+use Rattle.meaning.specs.Decorations.{lowerOf}
+use Rattle.end_pairs.specs.Conversions.{pairOf}
+use Rattle.decorations.specs.Conversions.{decorationOf}
+use Rattle.decorations.proofs.DecorationLaws.{settled-lower}
+use Rattle.decorations.proofs.settling.settled.Statement.{statement}
+use Rattle.decorations.proofs.settling.settled.Tie as tie
+
+highest-requires : tie.Need-highest-requires
+highest-requires c κs = search needs
+
+lower-decoration-requires : tie.Need-lower-decoration-requires
+lower-decoration-requires c κs = tt
+
+returns : tie.Need-returns
+returns c =
+    let a = c .before .before .args in
+    c .lower-decoration .ensures ∙ ap (lowerOf (decorationOf (a .d))) (c .before .highest .ensures)
+    ∙ settled-lower (setOf binary64 (pairOf (a .x))) (decorationOf (a .d))
+
+pub settled-spec : {M : Type 1} → statement M
+settled-spec = tie.close (tie.spec highest-requires lower-decoration-requires returns)

@@ -1,0 +1,83 @@
+-- `validity::agrees` meets its contract: each arm tests what its decoration asks.
+use mathlib.Core.Path.{ap}
+use Rattle.patterns.specs.Format.{binary64}
+use Rattle.meaning.specs.Decorations.{Ill, Trv, Def, Dac, Com}
+use Rattle.decorations.specs.Conversions.{decorationOf}
+use Rattle.decorations.proofs.AgreeLaws.{answers-agree}
+use Rattle.decorations.proofs.validity.agrees.Statement.{statement}
+use Rattle.decorations.proofs.validity.agrees.Tie as tie
+
+enum-told : tie.Need-enum-told
+enum-told c = c .match .keys1
+
+are-nans-requires : tie.Need-are-nans-requires
+are-nans-requires c κs = tt
+
+enum-told-2 : tie.Need-enum-told-2
+enum-told-2 c = c .match .keys2
+
+is-bare-requires : tie.Need-is-bare-requires
+is-bare-requires c κs = tt
+
+enum-told-3 : tie.Need-enum-told-3
+enum-told-3 c = c .match .keys3
+
+is-proper-requires : tie.Need-is-proper-requires
+is-proper-requires c κs = tt
+
+enum-told-4 : tie.Need-enum-told-4
+enum-told-4 c = c .match .keys4
+
+is-proper-requires-2 : tie.Need-is-proper-requires-2
+is-proper-requires-2 c κs = tt
+
+enum-told-5 : tie.Need-enum-told-5
+enum-told-5 c = c .match .keys5
+
+is-bounded-requires : tie.Need-is-bounded-requires
+is-bounded-requires c κs = tt
+
+returns : tie.Need-returns
+returns c =
+    answers-agree binary64 (c .before .before .before .pre) Ill (ap decorationOf (c .before .enum-told .given .1))
+    (c .are-nans .ensures)
+
+returns-2 : tie.Need-returns-2
+returns-2 c =
+    answers-agree binary64 (c .before .before .before .pre) Trv (ap decorationOf (c .before .enum-told2 .given .1))
+    (c .is-bare .ensures)
+
+returns-3 : tie.Need-returns-3
+returns-3 c =
+    answers-agree binary64 (c .before .before .before .pre) Def (ap decorationOf (c .before .enum-told3 .given .1))
+    (c .is-proper .ensures)
+
+returns-4 : tie.Need-returns-4
+returns-4 c =
+    answers-agree binary64 (c .before .before .before .pre) Dac (ap decorationOf (c .before .enum-told4 .given .1))
+    (c .is-proper2 .ensures)
+
+returns-5 : tie.Need-returns-5
+returns-5 c =
+    answers-agree binary64 (c .before .before .before .pre) Com (ap decorationOf (c .before .enum-told5 .given .1))
+    (c .is-bounded .ensures)
+
+pub agrees-spec : {M : Type 1} → statement M
+agrees-spec =
+    tie.close
+    (tie.spec
+    enum-told
+    are-nans-requires
+    enum-told-2
+    is-bare-requires
+    enum-told-3
+    is-proper-requires
+    enum-told-4
+    is-proper-requires-2
+    enum-told-5
+    is-bounded-requires
+    returns
+    returns-2
+    returns-3
+    returns-4
+    returns-5)

@@ -1,0 +1,2 @@
+-- What the contracts of decorations cite.
+pub mod Conversions

@@ -1,0 +1,41 @@
+-- `tests::is_proper` meets its contract: each end is tested, and then their order.
+use borrow.Author.Tests.{not-true, not-false}
+use Rattle.patterns.specs.Format.{binary64}
+use Rattle.flags.specs.Answers.{denied}
+use Rattle.flags.proofs.AnswerLaws.{said-yes, said-no, no-so}
+use Rattle.end_pairs.proofs.TestLaws.{answers-proper}
+use Rattle.end_pairs.proofs.tests.is_proper.Statement.{statement}
+use Rattle.end_pairs.proofs.tests.is_proper.Tie as tie
+
+is-lower-requires : tie.Need-is-lower-requires
+is-lower-requires c κs = tt
+
+returns : tie.Need-returns
+returns c = denied (λ p. said-no (c .before .is-lower .ensures) (not-true _ (c .if1 .taken)) (p .lowerEnd))
+
+is-upper-requires : tie.Need-is-upper-requires
+is-upper-requires c κs = tt
+
+less-or-equal-requires : tie.Need-less-or-equal-requires
+less-or-equal-requires c κs = tt
+
+returns-2 : tie.Need-returns-2
+returns-2 c =
+    answers-proper binary64 _
+    (said-yes (c .before .before .before .before .is-lower .ensures) (not-false _ (c .before .before .before .if1 .left)))
+    (said-yes (c .before .before .is-upper .ensures) (c .before .if2 .taken))
+    (c .less-or-equal .ensures)
+
+returns-3 : tie.Need-returns-3
+returns-3 c = no-so (λ p. p .upperEnd) (c .before .is-upper .ensures) (c .if2 .left)
+
+pub is-proper-spec : {M : Type 1} → statement M
+is-proper-spec =
+    tie.close
+    (tie.spec
+    is-lower-requires
+    returns
+    is-upper-requires
+    less-or-equal-requires
+    returns-2
+    returns-3)

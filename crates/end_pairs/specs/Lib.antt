@@ -1,0 +1,6 @@
+-- What the contracts of two ends cite.
+pub mod Conversions
+pub mod Keys
+pub mod Mirror
+pub mod Order
+pub mod Zeros

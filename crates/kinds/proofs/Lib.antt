@@ -1,0 +1,2 @@
+-- Laws of the classes of divisors.
+pub mod AllowedLaws

@@ -1,0 +1,8 @@
+// What the class of one operand says of a product or a quotient, before the tables are asked.
+mod divisor;
+mod kind;
+
+pub use divisor::allowed;
+pub use divisor::is_zero;
+pub use kind::kind_of;
+pub use kind::mirrored_kind;

@@ -1,0 +1,2 @@
+-- Laws of calls on columns.
+pub mod ColumnLaws

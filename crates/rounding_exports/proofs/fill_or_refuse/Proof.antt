@@ -1,0 +1,39 @@
+-- `rounding_exports::fill_or_refuse` meets its contract: the lengths are tried first, then the rows, and then all are filled.
+use borrow.Author.Needs.{needs}
+use borrow.Author.Tests.{not-false, not-true}
+use mathlib.Core.Path.{refl}
+use Rattle.flags.proofs.AnswerLaws.{said-yes, said-no}
+use Rattle.rounding_exports.specs.Columns.{failed, passed}
+use Rattle.rounding_exports.proofs.fill_or_refuse.Statement.{statement}
+use Rattle.rounding_exports.proofs.fill_or_refuse.Tie as tie
+
+returns : tie.Need-returns
+returns c = failed (c .if1 .taken)
+
+returns-2 : tie.Need-returns-2
+returns-2 c = passed (search needs) (failed (c .if2 .taken))
+
+takes-rows-requires : tie.Need-takes-rows-requires
+takes-rows-requires c κs = search needs
+
+returns-3 : tie.Need-returns-3
+returns-3 c = passed (search needs) (passed (search needs) (failed (said-no (c .before .takes-rows .ensures) (not-true _ (c .if3 .taken)))))
+
+fill-requires : tie.Need-fill-requires
+fill-requires c κs = (search needs, search needs, said-yes (c .before .before .takes-rows .ensures) (not-false _ (c .before .if3 .left)))
+
+same-length : tie.Need-same-length
+same-length c = search needs
+
+returns-4 : tie.Need-returns-4
+returns-4 c =
+    let judged = c .before .before .before .before .before in
+    passed (search needs)
+    (passed (search needs)
+    (passed (said-yes (judged .takes-rows .ensures) (not-false _ (c .before .before .before .before .if3 .left)))
+    (record { accepted = refl; filled = c .before .before .fill .ensures })))
+
+pub fill-or-refuse-spec : {M : Type 1} → statement M
+fill-or-refuse-spec =
+    tie.close
+    (tie.spec returns returns-2 takes-rows-requires returns-3 fill-requires same-length returns-4)

@@ -1,2 +1,0 @@
--- What the contracts of the operations on sets cite.
-pub mod Ends
