@@ -12,12 +12,15 @@ line is 'N passed, M failed'.
 import argparse
 import shlex
 import sys
+from pathlib import Path
+
+sys.path.insert(0, str(Path(__file__).resolve().parent.parent / 'python'))
 
 from compare import answers, driver
 from differences import unread
-from document import ANSWER, ILL, OPERAND, operand_refusal, operands, refused, turned
 from forms import ill_pair
-from reference import NAI
+from muenglavot_reference.document import (
+    ANSWER, ILL, NAI, OPERAND, operand_refusal, operands, refused, turned)
 from request_lists import Generator
 
 

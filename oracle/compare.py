@@ -16,11 +16,14 @@ import sys
 from collections import Counter
 from pathlib import Path
 
-from differences import DIFFERENCES, judge
-from document import ILL, NUMBER
-from forms import FORMS
+ROOT = Path(__file__).resolve().parent.parent
+sys.path.insert(0, str(ROOT / 'python'))
 
-DRIVER = Path(__file__).resolve().parent.parent / 'target' / 'oracle' / 'driver'
+from differences import DIFFERENCES, judge
+from forms import FORMS
+from muenglavot_reference.document import ILL, NUMBER
+
+DRIVER = ROOT / 'target' / 'oracle' / 'driver'
 # How many unexplained differences are printed.
 SHOWN = 50
 

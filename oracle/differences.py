@@ -4,9 +4,7 @@ The port follows document 01. Each difference says where it applies, and what bo
 sides answer there; docs/DIFFERENCES.md has it in words. Elsewhere the answers are equal.
 """
 
-from math import inf
-
-from document import COM, DAC, ENDS, NUMBER
+from muenglavot_reference.document import COM, DAC, EMPTY, ENDS, NUMBER
 
 # The driver's numbers for what the crate does not read, and for what it cannot be asked.
 UNREAD = 255
@@ -43,7 +41,7 @@ def trunc_to_zero(form, request, number, place):
 
 def try_from_empty_ends(form, request, number, place):
     return (not number and form.name(request) in ('Interval::try_from', 'DecInterval::try_from')
-            and ENDS.unpack_from(request, 1) == (inf, -inf))
+            and request[1:17] == EMPTY)
 
 
 def not_in_the_crate(form, request, number, place):

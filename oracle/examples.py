@@ -13,11 +13,13 @@ import shlex
 import sys
 from pathlib import Path
 
+HERE = Path(__file__).resolve().parent
+sys.path.insert(0, str(HERE.parent / 'python'))
+
 from compare import answers, driver
 from differences import judge
 from forms import FORMS
 
-HERE = Path(__file__).resolve().parent
 # Lists of requests, whose length says their kind, and of records of calls by value.
 REQUESTS = ('examples.txt', 'cases.txt')
 RECORDS = 'value_examples.txt'

@@ -6,22 +6,25 @@ bench program's then others from the start, up to its size. An answer is the cra
 the crate and document 01 agree, and document 01's where a difference is listed.
 """
 
+import sys
 from pathlib import Path
+
+ROOT = Path(__file__).resolve().parent.parent
+sys.path.insert(0, str(ROOT / 'python'))
 
 import record_lists
 import request_lists
-import values
 from compare import answers, driver, stop
 from differences import judge
-from document import ENDS, NUMBER, ONE_OPERAND, operands, proper, refusal, refused
 from forms import FORMS
+from muenglavot_reference import values
+from muenglavot_reference.document import (
+    ENDS, NUMBER, ONE_OPERAND, TOO_SHORT, operands, proper, refusal, refused)
 
 SEED = 1788
 DRAWN = 200_000
 # The least size of the bench program's list.
 SIZE = 4_000
-# Document 01's number for a last piece, which ends the list of value_run.
-TOO_SHORT = 1
 
 
 def sort_of(operand):
@@ -84,7 +87,7 @@ def make(program, kind, requests, situation, size=0, piece=b''):
         if verdict is None:
             stop(f'the crate and the reference differ on {requests[at].hex()}')
         kept.append(crate[at] if verdict == 'equal' else ours)
-    folder = Path(__file__).resolve().parent.parent / 'crates' / program
+    folder = ROOT / 'crates' / program
     if piece:
         kept.append(refused('decorated', TOO_SHORT, 0))
     (folder / 'stdin').write_bytes(b''.join(requests[at] for at in places) + piece)

@@ -3,10 +3,9 @@
 For both: what document 01 refuses and answers, and what the differences ask about.
 """
 
-import reference
-import values
-from document import (
-    ANSWER, ENDS, ILL, OPERAND, OPERATIONS, REQUEST, operands, proper, refusal)
+from muenglavot_reference import answers, values
+from muenglavot_reference.document import (
+    ANSWER, ENDS, ILL, NAI, OPERAND, OPERATIONS, REQUEST, operands, proper, refusal)
 
 
 def ill_pair(operand, by_value=False):
@@ -18,7 +17,7 @@ def ill_pair(operand, by_value=False):
 class Requests:
     names = OPERATIONS
     refusal = staticmethod(refusal)
-    answer = staticmethod(reference.answer)
+    answer = staticmethod(answers.answer)
 
     def __init__(self, kind):
         self.length = REQUEST[kind]
@@ -36,7 +35,7 @@ class Requests:
     def with_nai(request):
         """The request with NaI in place of each proper pair with Ill."""
         return request[:1] + b''.join(
-            reference.NAI if ill_pair(operand) else operand for operand in operands(request))
+            NAI if ill_pair(operand) else operand for operand in operands(request))
 
     def decorated_operation(self, request):
         """The number of the operation on decorated intervals, or 0."""
@@ -66,7 +65,7 @@ class Records:
         changed = list(operands(record))
         for place, way, _ in values.taken(record):
             if cls.ill_pair_at(record, place):
-                changed[place - 1] = way.in_order(reference.NAI)
+                changed[place - 1] = way.in_order(NAI)
         return record[:1] + b''.join(changed)
 
     @staticmethod

@@ -9,6 +9,9 @@ the same arguments.
 import argparse
 import sys
 from itertools import islice
+from pathlib import Path
+
+sys.path.insert(0, str(Path(__file__).resolve().parent.parent / 'python'))
 
 import record_lists
 import request_lists

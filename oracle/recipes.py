@@ -3,7 +3,7 @@
 import sys
 from math import inf, ldexp, nextafter, ulp
 
-from document import NUMBER
+from muenglavot_reference.document import NUMBER
 
 LARGEST = sys.float_info.max
 NORMAL = sys.float_info.min

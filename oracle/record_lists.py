@@ -9,9 +9,10 @@ from math import inf, nan
 from struct import pack
 
 import request_lists
-from document import COM, DAC, DECORATIONS, DEF, ILL, TRV, operands
+from muenglavot_reference.document import (
+    COM, DAC, DECORATIONS, DEF, ILL, QUIET, TRV, decorated, operands)
+from muenglavot_reference.values import FUNCTIONS
 from recipes import LARGEST, TINY, both_signs
-from values import FUNCTIONS
 
 ZEROS = pack('>d', 0.0), pack('>d', -0.0)
 # A byte that is no decoration's.
@@ -52,7 +53,7 @@ class Generator(request_lists.Generator):
 
 # Both zeros, the smallest, one, the largest, both infinities and three NaNs, as patterns.
 ALL_ENDS = [pack('>d', end) for end in both_signs((0.0, TINY, 1.0, LARGEST, inf))] + [
-    pack('>Q', end) for end in (request_lists.QUIET, request_lists.SIGNALLING, 2 ** 64 - 1)]
+    pack('>Q', end) for end in (QUIET, request_lists.SIGNALLING, 2 ** 64 - 1)]
 
 # Pairs of ends with what is to be tried behind them: accepted, and refused in every way.
 PAIRS = (
@@ -62,7 +63,7 @@ PAIRS = (
     ((inf, -inf), DECORATIONS), ((nan, nan), (*DECORATIONS, NO_DECORATION)),
     ((nan, 1.0), (TRV,)), ((1.0, nan), (ILL,)), ((inf, inf), (TRV,)), ((-inf, -inf), (DAC,)),
     ((2.0, 1.0), (COM,)))
-MIXED = [pack('>ddB', *ends, decoration) for ends, decorations in PAIRS for decoration in decorations]
+MIXED = [decorated(*ends, decoration) for ends, decorations in PAIRS for decoration in decorations]
 
 
 def taken_operands(way, all_operands):

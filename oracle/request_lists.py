@@ -7,17 +7,13 @@ all pairs of intervals with ends from a fixed set.
 
 import random
 from math import inf, ldexp, nextafter
-from struct import Struct
 
-from document import (
-    COM, DAC, DECORATIONS, DEF, ENDS, ILL, NUMBER, ONE_OPERAND, OPERAND, TRV)
+from muenglavot_reference.document import (
+    COM, DAC, DECORATIONS, DEF, EMPTY, ENDS, ENTIRE, ILL, NAI, NUMBER, ONE_OPERAND, OPERAND,
+    PATTERNS, QUIET, TRV)
 from recipes import LARGEST, NORMAL, TINY, Recipes, both_signs
 
-PATTERNS = Struct('>QQ')
-QUIET = 0x7FF8000000000000
 SIGNALLING = 0x7FF0000000000001
-EMPTY = ENDS.pack(inf, -inf)
-ENTIRE = ENDS.pack(-inf, inf)
 
 
 def joined(a, b):
@@ -142,7 +138,7 @@ def all_operands(ends, decorated):
                     found.append(joined(a, b) + bytes([decoration]))
     found.append(EMPTY + bytes([TRV]))
     if decorated:
-        found.append(PATTERNS.pack(QUIET, QUIET) + bytes([ILL]))
+        found.append(NAI)
         return found
     return list(dict.fromkeys(operand[:16] for operand in found))
 

@@ -3,11 +3,25 @@ import random
 import struct
 from itertools import islice
 
-from operands import operands
-from reference import PRODUCT, QUOTIENT, SUM, answer
+from muenglavot_reference.doubles import POINT, pattern_of, place_of, round_up, worth
+from operands import PRODUCT, QUOTIENT, SUM, operands
 
 NAMES = {SUM: "sum", PRODUCT: "product", QUOTIENT: "quotient"}
 CASE = struct.Struct(">BQQQ")
+
+
+def exact(operation, a, b):
+    """The exact result as a fraction with a positive divisor, in units of 2^-1074."""
+    x, y = worth(place_of(a)), worth(place_of(b))
+    if operation == SUM:
+        return x + y, 1
+    if operation == PRODUCT:
+        return x * y, 1 << POINT
+    return (x << POINT, y) if y > 0 else (-x << POINT, -y)
+
+
+def answer(operation, a, b):
+    return pattern_of(round_up(*exact(operation, a, b)))
 
 
 def cases(seed, count):

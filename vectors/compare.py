@@ -5,9 +5,12 @@ import subprocess
 import sys
 from pathlib import Path
 
+ROOT = Path(__file__).resolve().parent.parent
+sys.path.insert(0, str(ROOT / "python"))
+
 from cases import CASE, NAMES, all_right, cases
 
-BUILT = Path(__file__).resolve().parent.parent / "target" / "bin" / "rounding_cases"
+BUILT = ROOT / "target" / "bin" / "rounding_cases"
 
 options = argparse.ArgumentParser(description=__doc__)
 options.add_argument("count", type=int, nargs="?", default=1_000_000, help="cases of all operations together")
@@ -17,7 +20,7 @@ given = options.parse_args()
 
 each = -(-given.count // len(NAMES))
 made = b"".join(cases(given.seed, each))
-told = subprocess.run([given.program], input=made, stdout=subprocess.PIPE, check=True).stdout.decode()
+told = subprocess.run([ROOT / "tests" / "x86", given.program], input=made, stdout=subprocess.PIPE, check=True).stdout.decode()
 print(told, end="")
 if told != all_right(each):
     for line in told.splitlines():

@@ -1,6 +1,8 @@
 """The kinds of operands that the cases are made of. Each kind draws one pair of magnitude patterns."""
-from reference import INFINITY, LARGEST, POINT, PRODUCT, QUOTIENT, SIGN, SUM
+from muenglavot_reference.document import NUMBER
+from muenglavot_reference.doubles import INFINITY, LARGEST, POINT, SIGN
 
+SUM, PRODUCT, QUOTIENT = NUMBER["add"], NUMBER["mul"], NUMBER["div"]
 FRACTION = 52
 UNIT = 1 << FRACTION
 FIELDS = INFINITY >> FRACTION

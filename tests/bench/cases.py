@@ -4,9 +4,8 @@ import sys
 
 from program import read_exactly, run, run_in_pieces, run_on, run_until_it_fails, start
 from samples import (
-    BAD_OPERANDS, FIRST, REPLY, REQUEST, SECOND, TOO_MANY, TOO_SHORT, accepted, fixed, judged, refused, request)
+    BAD_OPERANDS, FIRST, MOST, REPLY, REQUEST, SECOND, TOO_MANY, TOO_SHORT, accepted, fixed, judged, refused, request)
 
-MOST = 4096
 # Bytes that a pipe takes before its reader has taken any.
 PIPE = 65536
 # Sizes of pieces: single bytes, around a request, around the program's buffers, and mixed.
@@ -64,7 +63,7 @@ def try_requests():
         check(f'refusal of {one.hex()}', run(one), reply)
     both = list(refused())
     check('all refusals', run(b''.join(one for one, _ in both)), b''.join(reply for _, reply in both))
-    for bad, _ in BAD_OPERANDS:
+    for bad in BAD_OPERANDS:
         one = request(1, FIRST, bad)
         check(f'an operand that is not read, {bad.hex()}', run(one), judged(one))
 

@@ -1,83 +1,71 @@
-"""Requests with their answers: one accepted request for each operation, and one for each refusal."""
-import subprocess
-from struct import pack
+"""Requests with their replies: some that are accepted for each operation, and each refusal."""
+import sys
+from math import inf, nan
+from pathlib import Path
 
-REQUEST = 35
-REPLY = 19
-OPERATIONS = range(1, 18)
+ROOT = Path(__file__).resolve().parent.parent.parent
+sys.path.insert(0, str(ROOT / 'python'))
 
-INF = float('inf')
-NAN = float('nan')
-ILL, TRV, DEF, DAC, COM = 0, 4, 8, 12, 16
+from muenglavot_reference import answers, document
+from muenglavot_reference.document import COM, DAC, DEF, EMPTY, ILL, MOST, NAI, NUMBER, TRV, decorated
+
+REQUEST = document.REQUEST['decorated']
+REPLY = document.ANSWER['decorated']
 NO_DECORATION = 5
 
+FIRST = decorated(1, 2, COM)
+SECOND = decorated(-3, 4, COM)
+OPERANDS = (FIRST, SECOND, NAI, EMPTY + bytes([TRV]))
 
-def operand(lower, upper, decoration):
-    return pack('>ddB', lower, upper, decoration)
+# Operands that are refused, each in another way.
+BAD_OPERANDS = (
+    decorated(1, 2, NO_DECORATION),
+    decorated(nan, nan, NO_DECORATION),
+    decorated(2, 1, COM),
+    decorated(0.0, 1, COM),
+    decorated(-1, -0.0, COM),
+    decorated(1, nan, COM),
+    decorated(inf, inf, DAC),
+    decorated(1, 2, ILL),
+    decorated(1, inf, COM),
+    decorated(inf, -inf, DEF),
+    decorated(nan, nan, TRV),
+)
 
-
-FIRST = operand(1, 2, COM)
-SECOND = operand(-3, 4, COM)
-NAI = operand(NAN, NAN, ILL)
-EMPTY = operand(INF, -INF, TRV)
-
-# Each bad operand, with the number that it is refused with.
-BAD_OPERANDS = [
-    (operand(1, 2, NO_DECORATION), 4),
-    (operand(NAN, NAN, NO_DECORATION), 4),
-    (operand(2, 1, COM), 5),
-    (operand(0.0, 1, COM), 5),
-    (operand(-1, -0.0, COM), 5),
-    (operand(1, NAN, COM), 5),
-    (operand(INF, INF, DAC), 5),
-    (operand(1, 2, ILL), 6),
-    (operand(1, INF, COM), 6),
-    (operand(INF, -INF, DEF), 6),
-    (operand(NAN, NAN, TRV), 6),
-]
+TOO_SHORT = document.refused('decorated', document.TOO_SHORT, 0)
+TOO_MANY = document.refused('decorated', document.TOO_MANY, 0)
 
 
-def request(number, first=FIRST, second=SECOND):
-    return bytes([number]) + first + second
-
-
-def refusal(number, place):
-    """The reply that refuses."""
-    return bytes([number, place]) + bytes(REPLY - 2)
-
-
-TOO_SHORT = refusal(1, 0)
-TOO_MANY = refusal(7, 0)
-
-
-def refused():
-    """Each refusal of a whole request, with its reply."""
-    for number in [0, 18, 255]:
-        yield request(number), refusal(3, 0)
-    for bad, number in BAD_OPERANDS:
-        yield request(2, bad, SECOND), refusal(number, 1)
-        yield request(2, bad, bad), refusal(number, 1)
-        yield request(2, FIRST, bad), refusal(number, 2)
-        yield request(1, bad, SECOND), refusal(number, 1)
-    # An unknown operation comes first, and the first operand before the second.
-    yield request(0, BAD_OPERANDS[0][0], SECOND), refusal(3, 0)
-    yield request(2, operand(1, 2, ILL), operand(1, 2, NO_DECORATION)), refusal(6, 1)
-
-
-def accepted():
-    """Requests that are accepted: each operation on a few operands."""
-    for number in OPERATIONS:
-        for first in (FIRST, SECOND, NAI, EMPTY):
-            for second in (FIRST, SECOND, NAI, EMPTY):
-                yield request(number, first, second)
+def request(operation, first=FIRST, second=SECOND):
+    return bytes([operation]) + first + second
 
 
 def judged(data):
     """The replies that the reference gives to whole requests."""
-    return subprocess.run(['oracle/reference.py', 'decorated'], input=data, capture_output=True, check=True).stdout
+    return b''.join(answers.answer(data[at:at + REQUEST]) for at in range(0, len(data), REQUEST))
+
+
+def refused():
+    """Each refusal of a whole request, with its reply."""
+    add, neg = NUMBER['add'], NUMBER['neg']
+    requests = [request(number) for number in (0, 18, 255)]
+    for bad in BAD_OPERANDS:
+        requests += [request(add, bad, SECOND), request(add, bad, bad), request(add, FIRST, bad), request(neg, bad, SECOND)]
+    # An unknown operation comes first, and the first operand before the second.
+    requests += [request(0, BAD_OPERANDS[0], SECOND), request(add, decorated(1, 2, ILL), decorated(1, 2, NO_DECORATION))]
+    for one in requests:
+        yield one, judged(one)
+
+
+def accepted():
+    """Requests that are accepted: each operation on a few operands."""
+    for operation in NUMBER.values():
+        for first in OPERANDS:
+            for second in OPERANDS:
+                yield request(operation, first, second)
 
 
 def fixed():
     """The fixed list: its requests and their replies."""
-    with open('crates/bench/stdin', 'rb') as requests, open('crates/bench/stdout', 'rb') as answers:
-        return requests.read(), answers.read()
+    bench = ROOT / 'crates' / 'bench'
+    return (bench / 'stdin').read_bytes(), (bench / 'stdout').read_bytes()

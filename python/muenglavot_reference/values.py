@@ -1,23 +1,20 @@
 """The functions that take intervals by value: their numbers, what they refuse and answer.
 
-Written from document 01 as document.py and reference.py are, and from the crate's comments
-where document 01 leaves a function to the crate. A record is a function's number and two
-operands, in the form of a decorated request; crates/value_run/src/main.rt has the numbers.
+Where document 01 leaves a function to the crate, it is written from the crate's comments. A
+record is a function's number and two operands, in the form of a decorated request;
+crates/value_run/src/main.rt has the numbers.
 """
 
 from functools import partial
 from math import inf
 from typing import Callable, NamedTuple
 
-import reference
-from document import (
-    COM, DECORATIONS, ENDS, ILL, NUMBER, ONE_OPERAND, OPERAND, REQUEST, TRV, operand_refusal,
-    operands, refused, turned)
+from . import answers
+from .document import (
+    COM, DECORATIONS, EMPTY, ENTIRE, ILL, NAI, NUMBER, ONE_OPERAND, OPERAND, REQUEST, TRV,
+    operand_refusal, operands, refused, turned)
 
 RECORD = REQUEST['decorated']
-NAI = reference.NAI
-EMPTY = ENDS.pack(inf, -inf)
-ENTIRE = ENDS.pack(-inf, inf)
 # The answer where NaI has no interval part: zero bytes, and one that is no decoration's.
 MISSING = bytes(16) + b'\xff'
 
@@ -67,15 +64,15 @@ def is_nai(x):
 
 def handed_back(x):
     """The same interval, with its zeros and NaI's ends as the bytes have them."""
-    return NAI if is_nai(x) else reference.write(reference.read(x)) + x[16:]
+    return NAI if is_nai(x) else answers.write(answers.read(x)) + x[16:]
 
 
 def set_dec(x, decoration):
     """An interval with a decoration, as document 01's module 1 says."""
-    exact = reference.read(x)
+    exact = answers.read(x)
     if decoration == ILL:
         return NAI
-    return reference.write(exact) + bytes([reference.set_dec(exact, decoration)])
+    return answers.write(exact) + bytes([answers.set_dec(exact, decoration)])
 
 
 def new(x):
@@ -95,7 +92,7 @@ CLASSES = {
 
 def class_number(x):
     """The place of a class in the order declared, which E begins."""
-    exact = reference.read(x)
+    exact = answers.read(x)
     if exact is None:
         return bytes([0])
     [number] = [n for n, holds in enumerate(CLASSES.values(), 1) if holds(*exact)]
@@ -113,7 +110,7 @@ QUESTIONS = {
 
 def asking(question):
     def answer(x):
-        return bytes([not is_nai(x) and question(reference.read(x))])
+        return bytes([not is_nai(x) and question(answers.read(x))])
     return answer
 
 
@@ -170,7 +167,7 @@ def numbered():
         for operation, number in NUMBER.items():
             yield first + number, Function(
                 name.format(operation), (takes,) * (1 if number in ONE_OPERAND else 2),
-                partial(reference.result, number), number)
+                partial(answers.result, number), number)
     for first, group in FUNCTION_NUMBERS:
         for number, (name, takes, answer) in enumerate(group, first):
             yield number, Function(name, (takes,), answer)

@@ -1,15 +1,19 @@
-"""The exact reference: upward rounding by its definition, in whole numbers.
+"""Doubles, and upward rounding by its definition, in whole numbers.
 
-A double is told by its place in the order of doubles: 0 is zero, 1 the smallest positive number,
--1 its negative, and INFINITY is +inf. What a place is worth is a whole number of 2^-1074."""
-import struct
+A double is told by its place in the order of doubles: 0 is zero, 1 the smallest positive
+number, -1 its negative, and INFINITY is +inf. What a place is worth is a whole number of
+2^-1074.
+"""
+
+from struct import Struct
+
+PATTERN = Struct('>Q')
+DOUBLE = Struct('>d')
 
 SIGN = 1 << 63
 INFINITY = 0x7FF0000000000000
 LARGEST = INFINITY - 1
 POINT = 1074
-
-SUM, PRODUCT, QUOTIENT = 2, 4, 5
 
 
 def magnitude(place):
@@ -36,7 +40,8 @@ def guess(over, under):
         near = abs(over) / (under << POINT)
     except OverflowError:
         return LARGEST if over > 0 else -LARGEST
-    place = min(int.from_bytes(struct.pack(">d", near), "big"), LARGEST)
+    [pattern] = PATTERN.unpack(DOUBLE.pack(near))
+    place = min(pattern, LARGEST)
     return place if over > 0 else -place
 
 
@@ -50,15 +55,7 @@ def round_up(over, under):
     return place
 
 
-def exact(operation, a, b):
-    """The exact result as a fraction with a positive divisor, in units of 2^-1074."""
-    x, y = worth(place_of(a)), worth(place_of(b))
-    if operation == SUM:
-        return x + y, 1
-    if operation == PRODUCT:
-        return x * y, 1 << POINT
-    return (x << POINT, y) if y > 0 else (-x << POINT, -y)
-
-
-def answer(operation, a, b):
-    return pattern_of(round_up(*exact(operation, a, b)))
+def up(value):
+    """The least double, or +inf, that is not below a fraction."""
+    place = round_up(value.numerator << POINT, value.denominator)
+    return DOUBLE.unpack(PATTERN.pack(pattern_of(place)))[0]

@@ -1,7 +1,4 @@
-"""Document 01's words on requests: their form, and what is refused.
-
-Written from the document alone, so that it can judge either side's refusals.
-"""
+"""Document 01's words on intervals as bytes and on requests: their form, and what is refused."""
 
 from math import copysign, inf
 from struct import Struct
@@ -22,6 +19,21 @@ REQUEST = {kind: 1 + 2 * length for kind, length in OPERAND.items()}
 ANSWER = {kind: 2 + length for kind, length in OPERAND.items()}
 
 ENDS = Struct('>dd')
+PATTERNS = Struct('>QQ')
+# The NaN that is written for each end of NaI.
+QUIET = 0x7FF8000000000000
+EMPTY = ENDS.pack(inf, -inf)
+ENTIRE = ENDS.pack(-inf, inf)
+NAI = PATTERNS.pack(QUIET, QUIET) + bytes([ILL])
+
+# The numbers that end a run of the bench program, and how many requests it answers.
+TOO_SHORT, TOO_MANY = 1, 7
+MOST = 4096
+
+
+def decorated(lower, upper, decoration):
+    """The bytes of a decorated interval, or of what is none."""
+    return ENDS.pack(lower, upper) + bytes([decoration])
 
 
 def operands(request):

@@ -4,34 +4,22 @@ An interval is None if it is empty, otherwise a pair of ends, each a fraction or
 infinity. Where nothing else is said, the operands are not empty.
 """
 
-import sys
 from fractions import Fraction
-from math import ceil, floor, inf, nextafter
+from math import ceil, floor, inf
 
-LARGEST = sys.float_info.max
+from .doubles import up
+
 HALF = Fraction(1, 2)
 
 
-# Rounding.
-
-def up(value):
-    """The least double, or +inf, that is not below the value."""
-    if value > LARGEST:
-        return inf
-    if value <= -LARGEST:
-        return -LARGEST
-    # The quotient is near enough to start from; the two loops decide.
-    double = value.numerator / value.denominator
-    while Fraction(double) < value:
-        double = nextafter(double, inf)
-    while double > -LARGEST and Fraction(nextafter(double, -inf)) >= value:
-        double = nextafter(double, -inf)
-    return double
+def upward(t):
+    """The least double, or +inf, that is not below an end; +inf has none above it."""
+    return t if t == inf else up(t)
 
 
 def outward(x):
     """The narrowest interval with doubles for ends that holds x."""
-    return None if x is None else (-up(-x[0]), up(x[1]))
+    return None if x is None else (-upward(-x[0]), upward(x[1]))
 
 
 # Arithmetic: the ends of the hull of all results.
