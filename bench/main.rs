@@ -18,9 +18,6 @@ const SEED: u64 = 0x2545_f491_4f6c_dd1d;
 const ACCEPTED: u32 = 0;
 const BAD_OPERANDS: u32 = 5;
 
-/// An operand that no operation takes.
-const INFINITY: u64 = 0x7ff0_0000_0000_0000;
-
 // A slice is passed as a pointer and a length.
 extern "C" {
     fn rounding_exports_sums(
@@ -110,7 +107,7 @@ fn measure(operation: &Operation, pair: Pair) -> [f64; 3] {
     let mut out = [[0; BLOCK]; 3];
     for (a, b) in a.chunks(BLOCK).zip(b.chunks(BLOCK)) {
         let mut refused = a.to_vec();
-        refused[BLOCK - 1] = INFINITY;
+        refused[BLOCK - 1] = plain::INFINITY;
         let mut least = [f64::INFINITY; 3];
         let mut judging = f64::INFINITY;
         let (mut number, mut refusal) = (ACCEPTED, BAD_OPERANDS);

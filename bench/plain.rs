@@ -3,7 +3,7 @@
 //! The lowest digit of a significand that is to be rounded is sticky: it is 1 if anything was cut off below it.
 
 const SIGN: u64 = 1 << 63;
-const INFINITY: u64 = 0x7ff << FRACTION;
+pub const INFINITY: u64 = 0x7ff << FRACTION;
 const LARGEST: u64 = INFINITY - 1;
 
 /// Bits of the fraction field, digits of a significand, and bits of a wide one.

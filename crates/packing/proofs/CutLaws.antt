@@ -6,8 +6,7 @@ use Prim.Native.Nat.{ℕ, _+_, _*_, _/_, _^_, _<_, _≤_}
 use native.Mathlib.Omega.{arith}
 use native.Mathlib.Nat.{div-mul-le-self, eq-of-mul-eq-mul-right, le-antisymm, le-of-eq, le-trans, lt-div-mul-add, lt-of-lt-of-le, mul-le-mul-right, mul-pos}
 use lib.Pow.{pow-add, pow-pos}
-use Rattle.packing.specs.Bracket.{Brackets}
-use Rattle.packing.specs.Packing.{Rebrackets}
+use Rattle.packing.specs.Bracket.{Brackets, Rebrackets}
 
 -- A multiple of 2 ^ (e + s), in terms of multiples of 2 ^ e.
 regrouped : (q e s d : ℕ) → q * 2 ^ (e + s) * d ≡ q * 2 ^ s * (2 ^ e * d)

@@ -1,6 +1,8 @@
--- Laws of brackets and of packing them, over any format.
+-- Laws of brackets, of magnitudes and of packing, over any format.
 pub mod CutLaws
 pub mod WordLaws
 pub mod PackLaws
 pub mod UnpackLaws
+pub mod NormalLaws
 pub mod BracketLaws
+pub mod OneBracket

@@ -7,7 +7,7 @@ use native.Mathlib.Omega.{arith}
 use lib.Pow.{pow-pos, split}
 use Rattle.patterns.specs.Value.{value}
 use Rattle.patterns.proofs.ValueLaws.{packed, pow-next}
-use Rattle.packing.specs.Packing.{Unpacks}
+use Rattle.packing.specs.Magnitude.{Unpacks}
 
 -- A fine and short significand at an exponent is what its packed pattern unpacks to.
 unpacks-packed : (frac b significand exponent : ℕ) → b ≡ exponent * 2 ^ frac + significand

@@ -1,3 +1,4 @@
--- Brackets of exact values, which every rounding ends in.
+-- Brackets of exact values, which every rounding ends in, and magnitudes taken apart and packed.
 pub mod Bracket
+pub mod Magnitude
 pub mod Packing

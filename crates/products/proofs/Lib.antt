@@ -1,3 +1,3 @@
 -- Laws of products by limbs, and of the exponents of products.
 pub mod Limbs
-pub mod Scale
+pub mod ProductScale

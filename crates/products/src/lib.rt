@@ -2,12 +2,13 @@
 ghost use Rattle.patterns.specs.Format.{binary64};
 ghost use Rattle.patterns.specs.Rounding.{Up, productOf};
 ghost use Rattle.patterns.specs.Value.{Finite};
+use crate::product_bracket::product;
 use significands::double::SIGN;
 use significands::normal::normalise;
 use significands::sign::differ;
 use significands::sign::round_up;
 
-mod product;
+mod product_bracket;
 mod wide;
 
 // The least double that is not below a * b, or infinity.
@@ -23,5 +24,5 @@ pub fn mul_ru(a: u64, b: u64) -> u64
     if y == 0 {
         return 0;
     }
-    round_up(differ(a, b), product::product(normalise(x), normalise(y)))
+    round_up(differ(a, b), product(normalise(x), normalise(y)))
 }

@@ -1,3 +1,3 @@
 -- Laws of long division, and of the exponents of quotients.
 pub mod Digits
-pub mod Scale
+pub mod QuotientScale

@@ -5,19 +5,19 @@ use rounding_runs::cases::CASE;
 use rounding_runs::cases::Tally;
 use rounding_runs::cases::count;
 use rounding_runs::cases::first_wrong;
-use rounding_runs::operation::Operation;
+use rounding_runs::roundings::Operation;
 use std::num::wrapping_add_usize;
 
 // Bytes that one turn reads: 2,600 whole cases.
 const CHUNK: usize = 65000;
 
-// What was found so far. `wrong` says that some case is not right, and `place` is then the number of the first,
+// What was found so far. `wrong` says that some case is not right, and `index` is then that of the first,
 // counted from 0; until then it is the number of cases. `more` says that the input goes on.
 struct Found {
     sums: Tally,
     products: Tally,
     quotients: Tally,
-    place: usize,
+    index: usize,
     wrong: bool,
     more: bool,
 }
@@ -43,7 +43,7 @@ fn judge_some(found: Found) -> Found {
             sums,
             products,
             quotients,
-            place: found.place,
+            index: found.index,
             wrong: true,
             more,
         };
@@ -53,7 +53,7 @@ fn judge_some(found: Found) -> Found {
         sums,
         products,
         quotients,
-        place: wrapping_add_usize(found.place, first),
+        index: wrapping_add_usize(found.index, first),
         wrong: first != n / CASE || n % CASE != 0,
         more,
     }
@@ -67,7 +67,7 @@ fn judge_all() -> Found {
         sums: none,
         products: none,
         quotients: none,
-        place: 0,
+        index: 0,
         wrong: false,
         more: true,
     };
@@ -103,7 +103,7 @@ fn main() {
     write_tally(b"quotient", found.quotients);
     if found.wrong {
         write(b"first wrong case: ");
-        write_number(found.place);
+        write_number(found.index);
         write(b"\n");
     }
 }

@@ -6,7 +6,7 @@ use lib.ListN.{length}
 use lib.Seq.{ext-getD}
 use Rattle.patterns.specs.Format.{binary64}
 use Rattle.patterns.proofs.UpLaws.{up-unique}
-use Rattle.rounding_runs.specs.declared.operation.Operation.{Operation}
+use Rattle.rounding_runs.specs.declared.roundings.Operation.{Operation}
 use Rattle.rounding_exports.specs.Columns.{Filled, Accepted, Tried, failed, passed, FilledOrRefused}
 
 -- At most one number, and one column.

@@ -6,7 +6,7 @@ use lib.ListN.{length, getD}
 use Rattle.patterns.specs.Format.{binary64}
 use Rattle.patterns.specs.Rounding.{Up}
 use Rattle.rounding_runs.specs.Operations.{Takes, exactOf}
-use Rattle.rounding_runs.specs.declared.operation.Operation.{Operation}
+use Rattle.rounding_runs.specs.declared.roundings.Operation.{Operation}
 
 -- The operation takes the operands of every row.
 abbrev pub TakesRows : Operation → (a b : List ℕ) → Type 0

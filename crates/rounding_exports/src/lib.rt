@@ -3,9 +3,9 @@ ghost use mathlib.Core.Path.{_≡_};
 ghost use lib.ListN.{length};
 ghost use Rattle.flags.specs.Answers.{Answers};
 ghost use Rattle.rounding_exports.specs.Columns.{Filled, FilledOrRefused, TakesRows};
-use rounding_runs::operation::Operation;
-use rounding_runs::operation::rounded;
-use rounding_runs::operation::takes;
+use rounding_runs::roundings::Operation;
+use rounding_runs::roundings::rounded;
+use rounding_runs::roundings::takes;
 
 // The number of a call that is accepted.
 const ACCEPTED: u32 = 0;

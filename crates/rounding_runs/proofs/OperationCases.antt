@@ -1,6 +1,6 @@
 -- What follows for each operation follows for any.
-use Rattle.rounding_runs.specs.declared.operation.Operation.{Operation}
-use Rattle.rounding_runs.specs.declared.operation.Operation.the-variants.{Sum, Product, Quotient}
+use Rattle.rounding_runs.specs.declared.roundings.Operation.{Operation}
+use Rattle.rounding_runs.specs.declared.roundings.Operation.the-variants.{Sum, Product, Quotient}
 
 pub by-operation : (P : Operation → Type 0) {Q : Type 0} → (P Sum → Q) → (P Product → Q) → (P Quotient → Q) → (o : Operation) → P o → Q
 by-operation P f g h Sum p = f p

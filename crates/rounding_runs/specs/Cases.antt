@@ -7,8 +7,8 @@ use Rattle.patterns.specs.Format.{binary64}
 use Rattle.patterns.specs.Rounding.{Up}
 use Rattle.rounding_runs.specs.Operations.{Takes, exactOf}
 use Rattle.rounding_runs.specs.Words.{wordAt}
-use Rattle.rounding_runs.specs.declared.operation.Operation.{Operation}
-use Rattle.rounding_runs.specs.declared.operation.Operation.the-variants.{Sum, Product, Quotient}
+use Rattle.rounding_runs.specs.declared.roundings.Operation.{Operation}
+use Rattle.rounding_runs.specs.declared.roundings.Operation.the-variants.{Sum, Product, Quotient}
 
 -- Document 01's operation numbers.
 abbrev pub numberOf : Operation → ℕ

@@ -4,8 +4,8 @@ use Prim.Native.Nat.{ℕ}
 use Rattle.patterns.specs.Format.{binary64}
 use Rattle.patterns.specs.Rounding.{Exact, sumOf, productOf, quotientOf}
 use Rattle.patterns.specs.Value.{Finite, value, magnitude}
-use Rattle.rounding_runs.specs.declared.operation.Operation.{Operation}
-use Rattle.rounding_runs.specs.declared.operation.Operation.the-variants.{Sum, Product, Quotient}
+use Rattle.rounding_runs.specs.declared.roundings.Operation.{Operation}
+use Rattle.rounding_runs.specs.declared.roundings.Operation.the-variants.{Sum, Product, Quotient}
 
 -- A divisor is not worth 0. The second operand of a sum or a product may be anything.
 abbrev pub SecondOf : Operation → ℕ → Type 0

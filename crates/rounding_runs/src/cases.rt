@@ -4,9 +4,9 @@ ghost use mathlib.Core.Path.{_≡_};
 ghost use lib.ListN.{length};
 ghost use Rattle.flags.specs.Answers.{Answers};
 ghost use Rattle.rounding_runs.specs.Cases.{Counted, FirstWrong, Right, RightCase, Says, SomeRightCase, WrongCase, numberOf};
-use crate::operation::Operation;
-use crate::operation::rounded;
-use crate::operation::takes;
+use crate::roundings::Operation;
+use crate::roundings::rounded;
+use crate::roundings::takes;
 use crate::words::word;
 
 // Bytes of a case: the operation's number, and three big-endian words.

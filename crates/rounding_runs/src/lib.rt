@@ -1,4 +1,4 @@
 // The three roundings by their operation, and the judging of stored cases.
 pub mod cases;
-pub mod operation;
+pub mod roundings;
 mod words;

@@ -1,5 +1,5 @@
--- Laws of doubled significands, of signed exponents, of brackets in proportion, and of signs.
-pub mod Doubling
+-- Laws of doubles, of signed exponents, of brackets in proportion, and of signs.
+pub mod DoubleLaws
 pub mod SignedExponents
 pub mod Proportion
 pub mod Signs

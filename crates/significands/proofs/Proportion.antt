@@ -1,12 +1,12 @@
 -- Brackets of equal fractions.
-use mathlib.Core.Bool.{Bool, false, false≢true}
+use mathlib.Core.Bool.{Bool}
 use mathlib.Core.Path.{_≡_, refl, sym, ap, subst, _∙_}
 use Prim.Native.Nat.{ℕ, _+_, _*_, _^_, _<_, _≤_}
-use native.Mathlib.Nat.{eq-of-mul-eq-mul-right, le-of-mul-le-mul-right, lt-irrefl, lt-of-mul-lt-mul-right, mul-le-mul-right, mul-lt-mul-of-pos-right, mul-pos}
+use native.Mathlib.Nat.{eq-of-mul-eq-mul-right, le-of-mul-le-mul-right, lt-of-mul-lt-mul-right, mul-le-mul-right, mul-lt-mul-of-pos-right, mul-pos}
 use native.Mathlib.Omega.{arith}
 use borrow.Author.Tests.{eqb-true, eq-eqb}
 use lib.Dec.{eqb}
-use lib.Pow.{pow-pos, pow-add, pow-mono}
+use lib.Pow.{pow-pos, pow-add}
 use Rattle.packing.specs.Bracket.{Brackets}
 
 -- n / k and n′ / k′ are one fraction, so q is as much of the one as of the other
@@ -46,19 +46,6 @@ moved n h l h′ l′ {d} {q} some same =
 
 pub unmoved : (n : ℕ) {d q h : ℕ} {x : Bool} → Brackets (n * 2 ^ 0) d q h x → Brackets n d q h x
 unmoved n {d} {q} {h} {x} = subst (λ (m : ℕ). Brackets m d q h x) (omega arith)
-
--- a significand of 64 bits, 64 places or more below the unit
-pub nothing-left : (n s : ℕ) {d q : ℕ} {x : Bool} → 0 < q → q < 2 ^ 64 → 64 ≤ s → 0 < d → Brackets (n * 2 ^ s) d q 0 x → Brackets n d 0 0 false
-nothing-left n s {d} {q} some short deep positive b =
-    let below : n * 2 ^ s < d * 2 ^ s = omega (arith, b .high, mul-le-mul-right {m = q + 1} {n = 2 ^ 64} d (omega arith), mul-le-mul-right d (pow-mono deep)) in
-    record {
-      low = omega arith;
-      high = omega (arith, lt-of-mul-lt-mul-right (2 ^ s) below);
-      told = (
-        λ never. absurd (false≢true never),
-        λ none. absurd (lt-irrefl 0 (omega (arith, mul-pos some positive, b .low, ap (λ (m : ℕ). m * 2 ^ s) none))),
-      );
-    }
 
 -- a quotient and its remainder
 pub divided : (q r : ℕ) {n d : ℕ} → q * d + r ≡ n → r < d → Brackets n d q 0 (eqb r 0)

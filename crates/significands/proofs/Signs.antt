@@ -12,7 +12,7 @@ use Rattle.patterns.specs.Value.{value, magnitude, plus, minus, choose}
 use Rattle.patterns.specs.Rounding.{Exact, Up, RoundsUp, RoundsDown, productOf, quotientOf, divided}
 use Rattle.patterns.proofs.ValueLaws.{value-positive, value-zero}
 use Rattle.patterns.proofs.UpLaws.{infinity-positive, up-positive, up-negative, up-negative-zero, up-same}
-use Rattle.significands.specs.Signed.{signed}
+use Rattle.significands.specs.SignedExact.{signed}
 
 -- the machine's test that two truths differ
 pub differs : (s t : Bool) → not (Bool·beq s t) ≡ xor s t

@@ -2,5 +2,5 @@
 pub mod double;
 pub mod exponent;
 pub mod normal;
-pub mod place;
 pub mod sign;
+pub mod units;

@@ -7,13 +7,13 @@ ghost use Rattle.packing.specs.Bracket.{Brackets};
 ghost use Rattle.packing.specs.Packing.{Packable, PacksUp, PacksDown};
 ghost use Rattle.patterns.specs.Format.{binary64};
 ghost use Rattle.patterns.specs.Rounding.{Up};
-ghost use Rattle.significands.specs.Signed.{signed};
+ghost use Rattle.significands.specs.SignedExact.{signed};
 use crate::double::CODES;
 use crate::double::FRACTION;
 use crate::double::SIGN;
-use packing::Approx;
-use packing::pack_down;
-use packing::pack_up;
+use packing::bracket::Approx;
+use packing::pack::pack_down;
+use packing::pack::pack_up;
 
 // Whether two doubles have unlike signs.
 pub fn differ(a: u64, b: u64) -> bool

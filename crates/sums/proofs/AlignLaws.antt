@@ -1,35 +1,18 @@
 -- A significand is moved to another exponent.
 use mathlib.Core.Bool.{Bool, true}
 use mathlib.Core.Path.{_≡_, refl, sym, _∙_, ap, subst}
-use mathlib.Core.Logic.{_↔_, inl, inr, ⊎-elim}
+use mathlib.Core.Logic.{inl, inr, ⊎-elim}
 use Prim.Native.Nat.{ℕ, _+_, _*_, _-_, _/_, _%_, _^_, _<_, _≤_}
-use native.Mathlib.Nat.{div-eq-of-lt, le-trans, lt-of-lt-of-le, mul-assoc, mul-one, le-mul-of-pos-right, mul-le-mul-left, mul-le-mul-right}
+use native.Mathlib.Nat.{le-trans, lt-of-lt-of-le, mul-assoc, mul-one, le-mul-of-pos-right, mul-le-mul-left, mul-le-mul-right}
 use native.Mathlib.Omega.{arith}
-use borrow.Author.Tests.{eq-eqb, eqb-true}
-use lib.Dec.{eqb}
-use lib.Pow.{pow-add, pow-mono, pow-pos, shl-exact, shl-lt}
-use Rattle.packing.specs.Bracket.{Brackets}
+use lib.Dec.{lit<}
+use lib.Pow.{pow-add, pow-mono, pow-pos, shl-exact, shl-lt, shr-le}
+use Rattle.packing.specs.Bracket.{Brackets, Rebrackets}
 use Rattle.packing.proofs.BracketLaws.{exact-brackets}
-use Rattle.packing.proofs.CutLaws.{cut-brackets}
 use Rattle.sums.specs.Alignment.{Aligns, Alignable}
 
-pub itself : (m e : ℕ) → Brackets (m * 2 ^ e) 1 m e true
+itself : (m e : ℕ) → Brackets (m * 2 ^ e) 1 m e true
 itself m e = exact-brackets (m * 2 ^ e) 1 m e (omega arith) refl (mul-one (m * 2 ^ e))
-
--- A shift by a word's width leaves nothing of a significand, which is then cut unless it was 0.
-pub nothing-left : (m e s : ℕ) → m < 2 ^ 53 → 64 ≤ s → Brackets (m * 2 ^ e) 1 0 (e + s) (eqb m 0)
-nothing-left m e s short wide =
-    subst (λ (q : ℕ). Brackets (m * 2 ^ e) 1 q (e + s) (eqb m 0)) none
-    (cut-brackets m e s true (eqb m 0) whole (m * 2 ^ e) 1 (omega arith) (itself m e))
-  where
-    none : m / 2 ^ s ≡ 0
-    none = div-eq-of-lt (lt-of-lt-of-le short (pow-mono {i = 53} (omega arith)))
-
-    dropped : m / 2 ^ s * 2 ^ s ≡ 0
-    dropped = ap (λ (q : ℕ). q * 2 ^ s) none ∙ omega arith
-
-    whole : (eqb m 0 ≡ true) ↔ (m / 2 ^ s * 2 ^ s ≡ m)
-    whole = (λ test. dropped ∙ sym (eqb-true m 0 test), λ is. eq-eqb m 0 (sym is ∙ dropped))
 
 -- Digits that are put behind a significand lower its exponent.
 moved : (m j e k : ℕ) → j + e ≡ k → m * 2 ^ j * 2 ^ e ≡ m * 2 ^ k
@@ -64,7 +47,7 @@ module _ {m e m′ e′ g : ℕ} (a : Alignable m e m′ e′) (guard : Guards g
     aligns-near = subst (λ (h : ℕ). Aligns (m * 2 ^ e) (m′ * 2 ^ e′) h m′ e′ true) (sym near-word) near-exact
 
   -- Exponents that differ by more: g digits are put behind the first, and the second is cut there.
-  module _ {low e″ : ℕ} {x : Bool} (far : g < e - e′) (place : e″ ≡ e′ + (e - e′ - g)) (less : low ≤ m′) (cut : Brackets (m′ * 2 ^ e′) 1 low e″ x) where
+  module _ {low e″ : ℕ} {x : Bool} (far : g < e - e′) (cuts : (low ≡ m′ / 2 ^ (e - e′ - g)) × (e″ ≡ e′ + (e - e′ - g))) (cut : Rebrackets m′ e′ true low e″ x) where
     full : 2 ^ 52 ≤ m
     full = ⊎-elim (λ none. omega arith) (λ full. full) (a .fine)
 
@@ -78,9 +61,11 @@ module _ {m e m′ e′ g : ℕ} (a : Alignable m e m′ e′) (guard : Guards g
     far-cut =
         let near = a .near in
         let short′ = a .short′ in
+        let at : e″ ≡ e′ + (e - e′ - g) = cuts .1 in
+        let less : low ≤ m′ = subst (λ (k : ℕ). k ≤ m′) (sym (cuts .0)) (shr-le m′ (e - e′ - g)) in
         record {
           whole = moved m g e″ e (omega arith);
-          cut = cut;
+          cut = cut (m′ * 2 ^ e′) 1 (lit< tt) (itself m′ e′);
           fine = inr (omega (arith, long-word));
           long = inr long-word;
           room = lt-of-lt-of-le (shl-lt {a = m} 53 g (a .short)) (pow-mono {j = 63} (guard .room));

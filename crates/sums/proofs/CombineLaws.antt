@@ -1,24 +1,27 @@
 -- The sum and the difference of two aligned magnitudes, bracketed and fine enough for doubles.
 use mathlib.Core.Bool.{Bool, true, false, false≢true}
-use mathlib.Core.Path.{_≡_, sym, _∙_, ap}
+use mathlib.Core.Path.{_≡_, refl, sym, _∙_, ap}
 use mathlib.Core.Logic.{inl, inr, ⊎-elim}
 use Prim.Native.Nat.{ℕ, _+_, _*_, _-_, _^_, _<_, _≤_}
-use native.Mathlib.Nat.{le-of-mul-le-mul-right, lt-of-mul-lt-mul-right, mul-one}
+use native.Mathlib.Nat.{le-of-mul-le-mul-right, lt-of-mul-lt-mul-right, mul-one, zero-mul}
 use native.Mathlib.Omega.{arith}
 use lib.Arith.{lt-of-le-ne}
-use lib.Dec.{lit<, lit≤}
+use lib.Dec.{lit<}
 use lib.Pow.{pow-pos}
-use Rattle.packing.specs.Bracket.{Brackets, FineEnough}
-use Rattle.packing.specs.Packing.{Packable, Normalised}
+use Rattle.packing.specs.Bracket.{Brackets, Lowered}
+use Rattle.packing.specs.Magnitude.{Normalised}
+use Rattle.packing.specs.Packing.{Packable}
 use Rattle.packing.proofs.BracketLaws.{exact-brackets}
+use Rattle.significands.proofs.DoubleLaws.{packable}
 use Rattle.sums.specs.Alignment.{Aligns}
 
-packable : {m e : ℕ} → e < 2 ^ 11 → FineEnough 52 m e → Packable 52 2047 m e
-packable near fine = record { narrow = lit≤ tt; some = lit< tt; coded = lit< tt; near = omega arith; fine = fine }
+-- What is left at the exponent that the two are brought to.
+pub left-there : {m e start : ℕ} → e ≡ start → Lowered 52 start m e
+left-there is = record { lower = omega arith; short = inl is }
 
 module _ {n m high low e : ℕ} {x : Bool} (a : Aligns n m high low e x) where
   pub sum-packable : Packable 52 2047 (high + low) e
-  sum-packable = packable (a .near) (⊎-elim inl (λ full. inr (omega arith)) (a .fine))
+  sum-packable = packable (omega (arith, a .near)) (⊎-elim inl (λ full. inr (omega arith)) (a .fine))
 
   pub sum-brackets : Brackets (n + m) 1 (high + low) e x
   sum-brackets =
@@ -46,12 +49,16 @@ module _ {n m high low e : ℕ} {x : Bool} (a : Aligns n m high low e x) where
           let parts : (high - low + low) * 2 ^ e ≡ high * 2 ^ e = ap (λ (k : ℕ). k * 2 ^ e) (omega (arith, low-le)) in
           omega arith
 
-      module _ {m′ e′ : ℕ} {x′ : Bool} (normal : Normalised 52 (high - low) e m′ e′ x′) where
-        pub exact-packable : Packable 52 2047 m′ e′
-        exact-packable = packable (let lower = normal .lower in let near = a .near in omega arith) (normal .fine)
+      pub no-difference : high ≡ low → Brackets (n - m) 1 0 0 true
+      no-difference same =
+          exact-brackets (n - m) 1 0 0 (lit< tt) refl (sym (ap (λ (k : ℕ). k * 2 ^ e) {x = high - low} {y = 0} (omega arith) ∙ zero-mul (2 ^ e)) ∙ gap)
 
-        pub exact-difference : Brackets (n - m) 1 m′ e′ x′
-        exact-difference = exact-brackets (n - m) 1 m′ e′ (lit< tt) (normal .exact) (mul-one (m′ * 2 ^ e′) ∙ normal .worth ∙ gap)
+      module _ {m′ e′ : ℕ} (normal : Normalised 52 (high - low) e m′ e′) where
+        pub exact-packable : Packable 52 2047 m′ e′
+        exact-packable = packable (let lower = normal .lowered .lower in let near = a .near in omega arith) (normal .fine)
+
+        pub exact-difference : Brackets (n - m) 1 m′ e′ true
+        exact-difference = exact-brackets (n - m) 1 m′ e′ (lit< tt) refl (mul-one (m′ * 2 ^ e′) ∙ normal .worth ∙ gap)
 
     module _ (cut : x ≡ false) where
       above : low * 2 ^ e < m
@@ -64,7 +71,7 @@ module _ {n m high low e : ℕ} {x : Bool} (a : Aligns n m high low e x) where
 
       pub cut-packable : Packable 52 2047 (high - low - 1) e
       cut-packable =
-          packable (a .near)
+          packable (omega (arith, a .near))
           (inr (⊎-elim (λ exact. absurd (false≢true (sym cut ∙ exact))) (λ long. let short = a .short in omega arith) (a .long)))
 
       pub cut-difference : Brackets (n - m) 1 (high - low - 1) e false

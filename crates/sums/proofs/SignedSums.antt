@@ -9,7 +9,7 @@ use Rattle.patterns.specs.Value.{value, magnitude, plus, minus, choose}
 use Rattle.patterns.specs.Rounding.{Exact, Up, sumOf}
 use Rattle.patterns.proofs.ValueLaws.{value-mono}
 use Rattle.patterns.proofs.UpLaws.{up-same}
-use Rattle.significands.specs.Signed.{signed}
+use Rattle.significands.specs.SignedExact.{signed}
 
 -- The sum of v and w, of which s and t say whether they are positive.
 abbrev signedSum : (s t : Bool) (v w : ℕ) → Exact

@@ -1,15 +1,16 @@
 -- `products::mul_ru` meets its contract: nothing rounds to 0, and any other product by its sign.
 use borrow.Author.Needs.{needs}
 use mathlib.Core.Bool.{Bool}
-use mathlib.Core.Path.{subst}
+use mathlib.Core.Path.{refl, subst}
 use Prim.Native.Nat.{ℕ, _*_, _^_}
 use native.Mathlib.Nat.{pos-of-ne-zero}
 use lib.Pow.{pow-pos}
 use Rattle.patterns.specs.Format.{binary64, signBit}
 use Rattle.patterns.specs.Value.{value, magnitude}
 use Rattle.patterns.specs.Rounding.{Up}
-use Rattle.significands.specs.Signed.{signed}
+use Rattle.significands.specs.SignedExact.{signed}
 use Rattle.significands.proofs.Signs.{product-up, product-first-zero, product-second-zero}
+use Rattle.products.proofs.ProductScale.{product-worth}
 use Rattle.products.proofs.mul_ru.Statement.{statement}
 use Rattle.products.proofs.mul_ru.Tie as tie
 
@@ -46,10 +47,13 @@ returns-3 c =
     let b = start .args .b in
     let x : ℕ = value 52 (magnitude binary64 a) in
     let y : ℕ = value 52 (magnitude binary64 b) in
+    let m = c .before .before .before .normalise in
+    let n = c .before .before .normalise2 in
     product-up binary64 a b
     (subst (λ (s : Bool). Up binary64 (signed s (x * y) (2 ^ 1074)) (c .round-up .result)) (c .before .before .before .before .differ .ensures)
     (c .round-up .ensures (x * y) (2 ^ 1074) (pow-pos 1074)
-    (c .before .product .ensures .1 x y (c .before .before .before .normalise .ensures .1) (c .before .before .normalise2 .ensures .1))))
+    (product-worth 52 1074 1178 (m .result .exponent) (n .result .exponent) (m .result .significand) (n .result .significand) x y refl (m .ensures .1) (n .ensures .1)
+    (c .before .product .ensures .1 .1))))
 
 pub mul-ru-spec : {M : Type 1} → statement M
 mul-ru-spec =

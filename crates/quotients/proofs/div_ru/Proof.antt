@@ -4,12 +4,14 @@ use mathlib.Core.Bool.{Bool}
 use mathlib.Core.Path.{ap, subst, _∙_}
 use Prim.Native.Nat.{ℕ, _*_, _^_}
 use native.Mathlib.Nat.{pos-of-ne-zero}
+use native.Mathlib.Omega.{arith}
 use Rattle.patterns.specs.Format.{binary64, signBit}
 use Rattle.patterns.specs.Value.{value, magnitude}
 use Rattle.patterns.specs.Rounding.{Up}
 use Rattle.patterns.proofs.ValueLaws.{value-zero}
-use Rattle.significands.specs.Signed.{signed}
+use Rattle.significands.specs.SignedExact.{signed}
 use Rattle.significands.proofs.Signs.{quotient-up, quotient-zero}
+use Rattle.quotients.proofs.QuotientScale.{quotient-worth}
 use Rattle.quotients.proofs.div_ru.Statement.{statement}
 use Rattle.quotients.proofs.div_ru.Tie as tie
 
@@ -45,10 +47,13 @@ returns-2 c =
     let x : ℕ = value 52 (magnitude binary64 a) in
     let y : ℕ = value 52 (magnitude binary64 b) in
     let some = pos-of-ne-zero (start .pre .2) in
+    let m = c .before .before .before .normalise in
+    let n = c .before .before .normalise2 in
     quotient-up binary64 a b
     (subst (λ (s : Bool). Up binary64 (signed s (x * 2 ^ 1074) y) (c .round-up .result)) (c .before .before .before .before .differ .ensures)
     (c .round-up .ensures (x * 2 ^ 1074) y some
-    (c .before .quotient .ensures .1 x y some (c .before .before .before .normalise .ensures .1) (c .before .before .normalise2 .ensures .1))))
+    (quotient-worth 52 1074 (m .result .exponent) (n .result .exponent) (m .result .significand) (n .result .significand) x (omega (arith, n .ensures .0 .least)) some (m .ensures .1) (n .ensures .1)
+    (c .before .quotient .ensures .1 .1))))
 
 pub div-ru-spec : {M : Type 1} → statement M
 div-ru-spec =

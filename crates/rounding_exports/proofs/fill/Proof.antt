@@ -10,7 +10,7 @@ use lib.Seq.{getD-set-same, getD-set-other}
 use Rattle.patterns.specs.Format.{binary64}
 use Rattle.patterns.specs.Rounding.{Up}
 use Rattle.rounding_runs.specs.Operations.{exactOf}
-use Rattle.rounding_runs.specs.declared.operation.Operation.{Operation}
+use Rattle.rounding_runs.specs.declared.roundings.Operation.{Operation}
 use Rattle.rounding_exports.proofs.fill.Statement.{statement}
 use Rattle.rounding_exports.proofs.fill.Tie as tie
 

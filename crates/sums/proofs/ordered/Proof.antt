@@ -7,7 +7,7 @@ use lib.Dec.{ltb, lit<}
 use Rattle.patterns.specs.Format.{binary64, signBit}
 use Rattle.patterns.specs.Rounding.{Up}
 use Rattle.patterns.specs.Value.{value, magnitude, choose}
-use Rattle.significands.specs.Signed.{signed}
+use Rattle.significands.specs.SignedExact.{signed}
 use Rattle.sums.proofs.SignedSums.{sum-up}
 use Rattle.sums.proofs.ordered.Statement.{statement}
 use Rattle.sums.proofs.ordered.Tie as tie
@@ -32,7 +32,7 @@ returns c =
     let y : ℕ = value 52 (magnitude binary64 b) in
     sum-up binary64 a b (start .pre .1)
     (subst (λ (unlike : Bool). Up binary64 (signed (not (ltb a (2 ^ 63))) (choose unlike (x - y) (x + y)) 1) (c .round-up .result)) (c .before .before .differ .ensures)
-    (c .round-up .ensures _ 1 (lit< tt) (c .before .combined .ensures .1)))
+    (c .round-up .ensures _ 1 (lit< tt) (c .before .combined .ensures .1 .1)))
 
 pub ordered-spec : {M : Type 1} → statement M
 ordered-spec = tie.close (tie.spec differ-requires combined-requires round-up-requires returns)

@@ -1,8 +1,8 @@
 -- `rounding_runs::cases::is_right` meets its contract: a case is right if it is right of one of the three operations.
 use borrow.Author.Needs.{needs}
 use Rattle.rounding_runs.specs.Cases.{RightCase}
-use Rattle.rounding_runs.specs.declared.operation.Operation.{Operation}
-use Rattle.rounding_runs.specs.declared.operation.Operation.the-variants.{Sum, Product, Quotient}
+use Rattle.rounding_runs.specs.declared.roundings.Operation.{Operation}
+use Rattle.rounding_runs.specs.declared.roundings.Operation.the-variants.{Sum, Product, Quotient}
 use Rattle.flags.specs.Answers.{affirmed}
 use Rattle.flags.proofs.AnswerLaws.{answers-iff, said-yes, said-no}
 use Rattle.rounding_runs.proofs.OperationCases.{by-operation}

@@ -1,9 +1,9 @@
--- `significands::normal::normalise` meets its contract: what is unpacked is raised, with the exponent counted from 2 ^ -52 of the unit.
+-- `significands::normal::normalise` meets its contract: what is unpacked is brought to full length.
 use borrow.Author.Needs.{needs}
-use mathlib.Core.Path.{sym, _∙_}
+use Prim.Native.Nat.{_^_, _<_}
 use native.Mathlib.Omega.{arith}
 use Rattle.patterns.specs.Format.{infinity}
-use Rattle.significands.proofs.Doubling.{unpacked-positive, unpacked-worth}
+use Rattle.significands.proofs.DoubleLaws.{normal-full, normal-worth, unpacked-positive}
 use Rattle.significands.proofs.normal.normalise.Statement.{statement}
 use Rattle.significands.proofs.normal.normalise.Tie as tie
 
@@ -11,18 +11,19 @@ unpack-requires : tie.Need-unpack-requires
 unfolding infinity
 unpack-requires c κs = omega arith
 
-add-raise : tie.Need-add-raise
-add-raise c = search needs
+add-t3 : tie.Need-add-t3
+add-t3 c = search needs
 
-raise-requires : tie.Need-raise-requires
-raise-requires c κs = (unpacked-positive (c .before .unpack .ensures) (c .before .before .pre .0), search needs, search needs)
+normalised-requires : tie.Need-normalised-requires
+normalised-requires c κs = (search needs, unpacked-positive (c .before .unpack .ensures) (c .before .before .pre .0))
 
 returns : tie.Need-returns
 unfolding infinity
-returns c = (
-  record { least = search needs; short = search needs; near = omega arith },
-  unpacked-worth (c .before .before .unpack .ensures) ∙ sym (c .raise .ensures .3),
-)
+returns c =
+    let some = c .before .before .before .pre .0 in
+    let u = c .before .before .unpack .ensures in
+    let near : c .before .before .unpack .result .exponent < 2 ^ 11 = omega (arith, u .pattern) in
+    (normal-full some near u (c .normalised .ensures), normal-worth some near u (c .normalised .ensures))
 
 pub normalise-spec : {M : Type 1} → statement M
-normalise-spec = tie.close (tie.spec unpack-requires add-raise raise-requires returns)
+normalise-spec = tie.close (tie.spec unpack-requires add-t3 normalised-requires returns)
