@@ -61,13 +61,13 @@ fn answer(number: u8, first: [u8; DECORATED], second: [u8; DECORATED]) -> Said {
     let y = operand_of(second);
     let operation = number % GROUP;
     match number / GROUP {
-        DECORATED_OPERATIONS => value_operations::decorated::call(operation, false, x, y),
-        BARE_OPERATIONS => value_operations::bare::call(operation, false, x, y),
+        DECORATED_OPERATIONS => value_decorated::call(operation, false, x, y),
+        BARE_OPERATIONS => value_bare::call(operation, false, x, y),
         BARE_FUNCTIONS => value_functions::bare::call(number, x),
         DECORATED_FUNCTIONS => value_functions::decorated::call(number, x),
         FROM_BYTES => value_functions::from_bytes::call(number, first),
-        DECORATED_BY_NAME => value_operations::decorated::call(operation, true, x, y),
-        BARE_BY_NAME => value_operations::bare::call(operation, true, x, y),
+        DECORATED_BY_NAME => value_decorated::call(operation, true, x, y),
+        BARE_BY_NAME => value_bare::call(operation, true, x, y),
         _ => unknown_function(),
     }
 }
