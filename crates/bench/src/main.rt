@@ -49,7 +49,7 @@ fn write_left(written: &[u8]) -> bool
 // Reads what has arrived, and answers each request that is whole. A failed write ends the run.
 fn answer_some(run: Run, input: &mut [u8], output: &mut [u8]) -> Run
     requires { ⌜ Ready (run .held) (run .answered) (now input) (now output) ⌝ }
-    ensures { λ r. ⌜ (r .more ≡ true → Onward (run .held) (run .answered) (r .held) (r .answered)) ⌝ }
+    ensures { λ r. ⌜ (r .more ≡ true → Onward (run .held) (run .answered) (now (input .entry)) (r .held) (r .answered) (now (input .exit))) ⌝ }
 {
     let held = run.held;
     let arrived = arrive(&mut input[held..]);

@@ -6,14 +6,14 @@ use native.Mathlib.Omega.{arith}
 use lib.ListN.{length, drop}
 use Rattle.request_laws.specs.Chunk.{requestSize}
 use Rattle.bench_run.specs.Limit.{most}
-use Rattle.bench_run.specs.Run.{Replies, Ends, whole, piece, excess, Run}
+use Rattle.bench_run.specs.Run.{Replies, EndsWith, whole, piece, excess, Run}
 use Rattle.bench_run.specs.Turn.{Closes, goesOn, isWhole, hasPiece, hasExcess, endingReply, endingMore, Turned, Turn, Turns}
 use Rattle.bench_run.specs.declared.ending.Ending.{Ending}
 use Rattle.bench_run.proofs.RepliesLaws.{replies-once}
 use Rattle.bench_run.proofs.RunLaws.{run-writes}
 
 -- One end, after one count of requests.
-ends-once : {input x y : List ℕ} {m n : ℕ} → m ≤ most → n ≤ most → Ends input m x → Ends input n y → (m ≡ n) × (x ≡ y)
+ends-once : {input x y : List ℕ} {m n : ℕ} → m ≤ most → n ≤ most → EndsWith input m x → EndsWith input n y → (m ≡ n) × (x ≡ y)
 ends-once few less (whole h) (whole m′) = (omega arith, refl)
 ends-once few less (whole h) (piece m′ n′ o) = absurd (omega arith)
 ends-once few less (whole h) (excess m′ n′) = absurd (omega arith)

@@ -10,7 +10,7 @@ use lib.Seq.{drop-append-le, drop-drop}
 use Rattle.patterns.proofs.ValueLaws.{le-or-lt}
 use Rattle.request_laws.specs.Chunk.{requestSize}
 use Rattle.bench_run.specs.Limit.{most}
-use Rattle.bench_run.specs.Run.{Replies, Ends, whole, piece, excess, Run}
+use Rattle.bench_run.specs.Run.{Replies, EndsWith, whole, piece, excess, Run}
 use Rattle.bench_run.specs.Turn.{Closes, goesOn, isWhole, hasPiece, hasExcess, endingReply, endingMore, Turned, Turn, Turns, lastTurn, nextTurn}
 use Rattle.bench_run.specs.declared.ending.Ending.{Ending}
 use Rattle.bench_run.proofs.RepliesLaws.{replies-none, replies-front, replies-join}
@@ -130,7 +130,7 @@ underway-next {taken} {held} {arrived} {output} {answered} {left} u t more =
 -- What a run's last turn writes.
 ended : {input : List ℕ} {arrived kept answered : ℕ} {ending : Ending} → Closes arrived kept answered ending → endingMore ending ≡ false
     → kept ≡ length input - requestSize * answered → requestSize * answered ≤ length input → (answered < most → kept < requestSize)
-    → Ends input answered (endingReply ending)
+    → EndsWith input answered (endingReply ending)
 ended (goesOn _ _) e rest fits short = absurd (false-not-true (sym e))
 ended (isWhole none nothing) e rest fits short = whole (omega arith)
 ended (hasPiece none some less) e rest fits short = piece less (omega arith) (omega (arith, short less))

@@ -8,10 +8,10 @@ use lib.ListN.{getD}
 use Rattle.request_laws.specs.Chunk.{replySize, part}
 use Rattle.request_laws.proofs.PartLaws.{part-front}
 use Rattle.request_laws.proofs.ChunkLaws.{twoRequests, first-reply, second-reply}
-use Rattle.bench_run.specs.Run.{Replies, Ends, whole, piece, excess, Run}
+use Rattle.bench_run.specs.Run.{Replies, EndsWith, whole, piece, excess, Run}
 
 -- A run on two requests answers both.
-both-answered : {count : ℕ} {ending : List ℕ} → Ends twoRequests count ending → count ≡ 2
+both-answered : {count : ℕ} {ending : List ℕ} → EndsWith twoRequests count ending → count ≡ 2
 both-answered (whole e) = omega arith
 both-answered (piece few more less) = omega arith
 both-answered (excess all more) = omega arith

@@ -17,14 +17,14 @@ abbrev pub lastReply : (number : ℕ) → List ℕ
 lastReply number = number ∷ 0 ∷ zeros decoratedSize
 
 -- What a run writes behind the replies to its requests, of which it answered `count`.
-pub data Ends (input : List ℕ) (count : ℕ) : List ℕ → Type 0 where
+pub data EndsWith (input : List ℕ) (count : ℕ) : List ℕ → Type 0 where
   -- All bytes are those of the requests. "Empty input writes nothing."
-  whole : length input ≡ requestSize * count → Ends input count []
+  whole : length input ≡ requestSize * count → EndsWith input count []
   -- "A last piece of 1 to 34 bytes, with fewer than 4,096 requests before it, gets number 1 and ends the run."
   piece : count < most → requestSize * count < length input → length input < requestSize * count + requestSize
-      → Ends input count (lastReply tooShort)
+      → EndsWith input count (lastReply tooShort)
   -- "Any byte after request 4,096 gets one answer with number 7 and ends it."
-  excess : count ≡ most → requestSize * count < length input → Ends input count (lastReply tooMany)
+  excess : count ≡ most → requestSize * count < length input → EndsWith input count (lastReply tooMany)
 
 -- What a run writes for its whole input: the replies to its requests in order, then 1 or 7 where due.
 pub record Run (input output : List ℕ) : Type 0 where
@@ -33,5 +33,5 @@ pub record Run (input output : List ℕ) : Type 0 where
   pub replies : List ℕ
   pub answers : Replies count input replies
   pub ending : List ℕ
-  pub ends : Ends input count ending
+  pub ends : EndsWith input count ending
   pub is : output ≡ replies ++ ending

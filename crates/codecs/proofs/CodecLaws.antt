@@ -6,7 +6,7 @@ use lib.ListN.{length}
 use Rattle.meaning.specs.Statement.{refused, given, Verdict, Answered₁, right₁}
 use Rattle.meaning.specs.Calls.{passed, Called}
 use Rattle.meaning.specs.Requests.{codecTests}
-use Rattle.request_laws.proofs.CalledLaws.{called-by}
+use Rattle.meaning.proofs.CalledLaws.{called-by}
 use Rattle.request_laws.proofs.ReadLaws.{refused₁}
 
 module _ {B : Type 0} {size : ℕ} {Judged : List ℕ → Verdict → Type 0} {Read : List ℕ → B → Type 0} {bytes input before : List ℕ}

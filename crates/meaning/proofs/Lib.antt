@@ -6,4 +6,5 @@ pub mod PairLaws
 pub mod HullLaws
 pub mod PatternHull
 pub mod Unique
+pub mod CalledLaws
 pub mod OperationNumbers

@@ -15,7 +15,7 @@ use Rattle.meaning.specs.Calls.{Left, failed, passed}
 use Rattle.request_laws.specs.Calls.{Leaves}
 use Rattle.request_laws.specs.Chunk.{requestSize, replySize, part, Replied, Chunk}
 use Rattle.request_laws.proofs.PartLaws.{parts-agree}
-use Rattle.request_laws.proofs.CalledLaws.{called-by}
+use Rattle.meaning.proofs.CalledLaws.{called-by}
 use Rattle.request_laws.proofs.OneOutcome.{decorated-request-once}
 use Rattle.request_laws.proofs.Examples.{decoratedSum, decorated-sum, common}
 

@@ -1,9 +1,8 @@
 -- A request and a codec that are answered, bare and decorated: [1, 1] + [1, 1] = [2, 2], and [1, 1] in the other byte order.
-use mathlib.Core.Path.{_≡_, refl, ap}
+use mathlib.Core.Path.{_≡_, refl}
 use mathlib.Core.List.{List, _∷_, _++_}
 use Prim.Native.Nat.{ℕ}
 use native.Mathlib.Omega.{arith}
-use lib.ListN.{getD}
 use Rattle.patterns.specs.Format.{binary64, infinity, signBit}
 use Rattle.patterns.specs.Value.{value, magnitude, plus, minus, opposite}
 use Rattle.meaning.specs.Fraction.{_⊕_, _⊗_}
@@ -11,8 +10,8 @@ use Rattle.meaning.specs.Points.{add}
 use Rattle.meaning.specs.Results.{Result₂, point}
 use Rattle.meaning.specs.Pairs.{Bare, Canonical, minusInfinity, endOf, setOf}
 use Rattle.meaning.specs.Decorations.{Com}
-use Rattle.meaning.specs.Statement.{DecPair, given, sound, HullOf, RightDec₂, right₁, right₂, Decorated₂, Agrees, decoratedGood}
-use Rattle.meaning.specs.Bytes.{ByteOrder, bigEndian, littleEndian, bytesGood, JudgedDecBytes, decBytesGood, canonicalEnds, ReadDecorated, readInterval, writePair, writeDecorated}
+use Rattle.meaning.specs.Statement.{DecPair, given, sound, HullOf, RightDec₂, Answered₁, right₁, right₂, Decorated₂, Agrees, decoratedGood}
+use Rattle.meaning.specs.Bytes.{ByteOrder, bigEndian, littleEndian, JudgedBytes, bytesGood, JudgedDecBytes, decBytesGood, canonicalEnds, ReadDecorated, readInterval, readPair, writePair, writeDecorated, Written}
 use Rattle.meaning.specs.Calls.{passed}
 use Rattle.meaning.specs.Requests.{binary, operationNumber, zeros, bareSize, decoratedSize, firstOperand, BareRequest, DecoratedRequest, BareCodec, DecoratedCodec}
 use Rattle.states.proofs.PairLaws.{bare-not-nans}
@@ -20,8 +19,8 @@ use Rattle.exact_ends.specs.Answer.{adding}
 use Rattle.cases.specs.Table.{only, one, two, decoratedBy}
 use Rattle.cases.proofs.RowTests.{arithmetic-hull}
 use Rattle.cases.proofs.DecoratedTests.{decorated-tested}
-use Rattle.request_laws.proofs.CalledLaws.{called-by}
-use Rattle.request_laws.proofs.WrongCalls.{Shown}
+use Rattle.meaning.proofs.CalledLaws.{called-by}
+use Rattle.request_laws.proofs.WrongCalls.{Shown, shown-at}
 
 one-and-one : Bare binary64 (only one) × Bare binary64 (only one) × HullOf binary64 (Result₂ (point add) (setOf binary64 (only one)) (setOf binary64 (only one))) (only two)
 unfolding infinity signBit value magnitude plus minus opposite _⊕_ _⊗_ minusInfinity endOf setOf
@@ -48,23 +47,8 @@ bare-sum =
           (record { answer = only two; right = one-and-one .2; written = refl });
     }))))
 
--- Bytes that differ at a place differ.
-apart : (k : ℕ) {l m : List ℕ} → (getD l k 0 ≡ getD m k 0 → ⊥) → l ≡ m → ⊥
-apart k differ e = differ (ap (λ (l : List ℕ). getD l k 0) e)
-
--- The first byte of the answer is that of no wrong one.
 pub bare-shown : Shown (BareRequest binary64) bigEndian (firstOperand bareSize)
-bare-shown =
-    record {
-      input = bareSum;
-      before = zeros bareSize;
-      out = writePair bigEndian (only two);
-      right = bare-sum;
-      changes = apart 0 (λ e. omega arith);
-      notEntire = apart 0 (λ e. omega arith);
-      notEmpty = apart 0 (λ e. omega arith);
-      notFirst = apart 0 (λ e. omega arith);
-    }
+bare-shown = shown-at 0 bareSum (zeros bareSize) (writePair bigEndian (only two)) bare-sum refl refl refl refl
 
 -- The same with decorations.
 abbrev pub common : ℕ → DecPair
@@ -112,75 +96,36 @@ decorated-sum =
     }))))
 
 pub decorated-shown : Shown (DecoratedRequest binary64) bigEndian (firstOperand decoratedSize)
-decorated-shown =
-    record {
-      input = decoratedSum;
-      before = zeros decoratedSize;
-      out = writeDecorated bigEndian (common two);
-      right = decorated-sum;
-      changes = apart 0 (λ e. omega arith);
-      notEntire = apart 0 (λ e. omega arith);
-      notEmpty = apart 0 (λ e. omega arith);
-      notFirst = apart 0 (λ e. omega arith);
-    }
+decorated-shown = shown-at 0 decoratedSum (zeros decoratedSize) (writeDecorated bigEndian (common two)) decorated-sum refl refl refl refl
 
 -- A codec's operand is its whole input.
 abbrev pub whole : List ℕ → List ℕ
 whole input = input
 
--- The byte of an end that weighs most is the first in big endian and the last in little endian, and that of no wrong answer.
+-- [1, 1] is recoded. The byte of an end that weighs most, which tells, is the last one in little endian.
+bare-one : (from to : ByteOrder) → Answered₁ (JudgedBytes binary64 from) (λ x out. out ≡ writePair to (readPair from x)) (writePair from (only one)) (given (writePair to (only one)))
+bare-one bigEndian to = right₁ (bytesGood one-canonical) refl
+bare-one littleEndian to = right₁ (bytesGood one-canonical) refl
+
+decorated-one : (from to : ByteOrder) → Answered₁ (JudgedDecBytes binary64 from) (λ x out. Written (writeDecorated to) (ReadDecorated binary64 from x) out) (writeDecorated from (common one)) (given (writeDecorated to (common one)))
+decorated-one from to = right₁ (one-sound from) (record { answer = common one; right = one-read from; written = refl })
+
 pub bare-shown-big : Shown (BareCodec binary64 littleEndian bigEndian) bigEndian whole
 bare-shown-big =
-    record {
-      input = writePair littleEndian (only one);
-      before = zeros bareSize;
-      out = writePair bigEndian (only one);
-      right = called-by (given (writePair bigEndian (only one))) (passed refl (passed refl (right₁ (bytesGood one-canonical) refl)));
-      changes = apart 0 (λ e. omega arith);
-      notEntire = apart 0 (λ e. omega arith);
-      notEmpty = apart 0 (λ e. omega arith);
-      notFirst = apart 0 (λ e. omega arith);
-    }
+    shown-at 0 (writePair littleEndian (only one)) (zeros bareSize) (writePair bigEndian (only one))
+    (called-by (given (writePair bigEndian (only one))) (passed refl (passed refl (bare-one littleEndian bigEndian)))) refl refl refl refl
 
 pub bare-shown-little : Shown (BareCodec binary64 bigEndian littleEndian) littleEndian whole
 bare-shown-little =
-    record {
-      input = writePair bigEndian (only one);
-      before = zeros bareSize;
-      out = writePair littleEndian (only one);
-      right = called-by (given (writePair littleEndian (only one))) (passed refl (passed refl (right₁ (bytesGood one-canonical) refl)));
-      changes = apart 7 (λ e. omega arith);
-      notEntire = apart 7 (λ e. omega arith);
-      notEmpty = apart 7 (λ e. omega arith);
-      notFirst = apart 7 (λ e. omega arith);
-    }
+    shown-at 7 (writePair bigEndian (only one)) (zeros bareSize) (writePair littleEndian (only one))
+    (called-by (given (writePair littleEndian (only one))) (passed refl (passed refl (bare-one bigEndian littleEndian)))) refl refl refl refl
 
 pub decorated-shown-big : Shown (DecoratedCodec binary64 littleEndian bigEndian) bigEndian whole
 decorated-shown-big =
-    record {
-      input = writeDecorated littleEndian (common one);
-      before = zeros decoratedSize;
-      out = writeDecorated bigEndian (common one);
-      right =
-          called-by (given (writeDecorated bigEndian (common one)))
-          (passed refl (passed refl (right₁ (one-sound littleEndian) (record { answer = common one; right = one-read littleEndian; written = refl }))));
-      changes = apart 0 (λ e. omega arith);
-      notEntire = apart 0 (λ e. omega arith);
-      notEmpty = apart 0 (λ e. omega arith);
-      notFirst = apart 0 (λ e. omega arith);
-    }
+    shown-at 0 (writeDecorated littleEndian (common one)) (zeros decoratedSize) (writeDecorated bigEndian (common one))
+    (called-by (given (writeDecorated bigEndian (common one))) (passed refl (passed refl (decorated-one littleEndian bigEndian)))) refl refl refl refl
 
 pub decorated-shown-little : Shown (DecoratedCodec binary64 bigEndian littleEndian) littleEndian whole
 decorated-shown-little =
-    record {
-      input = writeDecorated bigEndian (common one);
-      before = zeros decoratedSize;
-      out = writeDecorated littleEndian (common one);
-      right =
-          called-by (given (writeDecorated littleEndian (common one)))
-          (passed refl (passed refl (right₁ (one-sound bigEndian) (record { answer = common one; right = one-read bigEndian; written = refl }))));
-      changes = apart 7 (λ e. omega arith);
-      notEntire = apart 7 (λ e. omega arith);
-      notEmpty = apart 7 (λ e. omega arith);
-      notFirst = apart 7 (λ e. omega arith);
-    }
+    shown-at 7 (writeDecorated bigEndian (common one)) (zeros decoratedSize) (writeDecorated littleEndian (common one))
+    (called-by (given (writeDecorated littleEndian (common one))) (passed refl (passed refl (decorated-one bigEndian littleEndian)))) refl refl refl refl

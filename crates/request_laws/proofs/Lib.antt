@@ -1,5 +1,4 @@
 -- Laws of requests and codecs.
-pub mod CalledLaws
 pub mod SoundLaws
 pub mod OutcomeLaws
 pub mod OneOutcome

@@ -10,7 +10,7 @@ use Rattle.states.proofs.VerdictLaws.{judged-bytes-once, judged-decBytes-once}
 use Rattle.states.proofs.ReadingLaws.{read-once}
 use Rattle.meaning.specs.Calls.{Left}
 use Rattle.request_laws.specs.Calls.{Statement, Leaves}
-use Rattle.request_laws.proofs.CalledLaws.{called-once}
+use Rattle.meaning.proofs.CalledLaws.{called-once}
 use Rattle.request_laws.proofs.OutcomeLaws.{bare-outcome-once, decorated-outcome-once, requested-once}
 
 -- A statement of what a call leaves, for any input and any lent output, allows one thing.

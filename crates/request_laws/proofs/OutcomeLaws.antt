@@ -14,12 +14,11 @@ use Rattle.states.proofs.DecoratedLaws.{right-decorated-once}
 use Rattle.states.proofs.DecorationLaws.{allows₁-unique, allows₂-unique}
 use Rattle.states.proofs.OverlapLaws.{number-unique, decorated-number-unique}
 use Rattle.states.proofs.ReadingLaws.{read-once}
-use Rattle.request_laws.proofs.CalledLaws.{Single}
 use Rattle.meaning.proofs.OperationNumbers.{asks-once}
 use Rattle.request_laws.proofs.SoundLaws.{sound-valid, sound-ends}
 
 module _ (F : Format) where
-  pub bare-outcome-once : (q : Asked) (first second : List ℕ) → Single (BareOutcome F q first second)
+  pub bare-outcome-once : (q : Asked) (first second : List ℕ) → One (BareOutcome F q first second)
   bare-outcome-once (unary op) first second o p =
       one-answer₁ (judged-bytes-once F bigEndian first)
       (written-once (hull-once F (Result₁ op (setOf F (readPair bigEndian first)))))
@@ -43,7 +42,7 @@ module _ (F : Format) where
       (subst (λ (y : DecPair). Right (k .x) y z) sameY (subst (λ (x : DecPair). Right x (h .y) z) sameX (h .right)))
       (k .right)
 
-  pub decorated-outcome-once : (q : Asked) (first second : List ℕ) → Single (DecoratedOutcome F q first second)
+  pub decorated-outcome-once : (q : Asked) (first second : List ℕ) → One (DecoratedOutcome F q first second)
   decorated-outcome-once (unary op) first second o p =
       one-answer₁ (judged-decBytes-once F bigEndian first)
       (read₁-once (λ x. written-once (right-decorated-once F (λ Z d e. allows₁-unique op (setOf F (x .pair)) Z))))
@@ -58,7 +57,7 @@ module _ (F : Format) where
 
 -- A request asks for one operation, and so has one outcome.
 pub requested-once : {size : ℕ} {Outcomes : Asked → (first second : List ℕ) → Outcome (List ℕ) → Type 0} {input : List ℕ}
-    → ((q : Asked) (first second : List ℕ) → Single (Outcomes q first second)) → Single (Requested size Outcomes input)
+    → ((q : Asked) (first second : List ℕ) → One (Outcomes q first second)) → One (Requested size Outcomes input)
 requested-once {size} {Outcomes} {input} single o p h k =
     single (k .asked) (firstOperand size input) (secondOperand size input) o p
     (subst (λ (q : Asked). Outcomes q (firstOperand size input) (secondOperand size input) o) (asks-once (h .asks) (k .asks)) (h .outcome))

@@ -1,8 +1,11 @@
 -- Wrong versions of a call on lent bytes: what its statement says of them, once for all calls.
+use mathlib.Core.Bool.{false}
 use mathlib.Core.Path.{_≡_, refl, sym, _∙_, ap}
 use mathlib.Core.List.{List}
 use Prim.Native.Nat.{ℕ}
-use lib.ListN.{take}
+use borrow.Author.Tests.{eqb-false}
+use lib.Dec.{eqb}
+use lib.ListN.{take, getD}
 use Rattle.meaning.specs.Bytes.{ByteOrder, writePair}
 use Rattle.meaning.specs.Calls.{Left}
 use Rattle.meaning.specs.Requests.{bareSize}
@@ -35,6 +38,34 @@ pub record Shown (S : Statement) (order : ByteOrder) (first : List ℕ → List 
   pub notEmpty : ends out ≡ writePair order emptiness → ⊥
   pub notFirst : ends out ≡ ends (first input) → ⊥
 
+-- Bytes that differ at a place differ.
+apart : (k : ℕ) (l m : List ℕ) → eqb (getD l k 0) (getD m k 0) ≡ false → l ≡ m → ⊥
+apart k l m differ e = eqb-false (getD l k 0) (getD m k 0) differ (ap (λ (l : List ℕ). getD l k 0) e)
+
+-- An answer whose byte at a place is that of none of them.
+pub shown-at : (k : ℕ) {S : Statement} {order : ByteOrder} {first : List ℕ → List ℕ} (input before out : List ℕ) → S input before 0 0 out
+    → eqb (getD out k 0) (getD before k 0) ≡ false → eqb (getD (ends out) k 0) (getD (writePair order entire) k 0) ≡ false
+    → eqb (getD (ends out) k 0) (getD (writePair order emptiness) k 0) ≡ false → eqb (getD (ends out) k 0) (getD (ends (first input)) k 0) ≡ false
+    → Shown S order first
+shown-at k {S} {order} {first} input before out right changes notEntire notEmpty notFirst =
+    record {
+      input = input;
+      before = before;
+      out = out;
+      right = right;
+      changes = apart k out before changes;
+      notEntire = apart k (ends out) (writePair order entire) notEntire;
+      notEmpty = apart k (ends out) (writePair order emptiness) notEmpty;
+      notFirst = apart k (ends out) (ends (first input)) notFirst;
+    }
+
+-- No version that is wrong in one of these ways meets the statement, called or exported.
+pub record NoneWrong (S : Statement) (order : ByteOrder) (first : List ℕ → List ℕ) : Type 0 where
+  pub called : (call : Call) → ((input before : List ℕ) → WrongCall order first input before (call input before)) → Meets S call → ⊥
+  pub exported : (result : (input before : List ℕ) → ℕ) (after : (input before : List ℕ) → List ℕ)
+      → ((input before : List ℕ) → WrongCall order first input before (record { number = result input before; place = 0; after = after input before }))
+      → ((input before : List ℕ) → Packed S input before (result input before) (after input before)) → ⊥
+
 module _ {S : Statement} {order : ByteOrder} {first : List ℕ → List ℕ} (once : OneLeft S) (shown : Shown S order first) where
   abbrev rightLeft : Left
   rightLeft = record { number = 0; place = 0; after = shown .out }
@@ -46,20 +77,18 @@ module _ {S : Statement} {order : ByteOrder} {first : List ℕ → List ℕ} (on
   not-wrong e (answersEmpty h) = shown .notEmpty (sym (ap (λ (l : Left). ends (l .after)) e) ∙ h)
   not-wrong e (handsBack h) = shown .notFirst (sym (ap (λ (l : Left). ends (l .after)) e) ∙ h)
 
-  -- No such version meets the statement, nor one that is like one of them on some inputs and like another on others.
-  pub no-wrong-call : (call : Call) → ((input before : List ℕ) → WrongCall order first input before (call input before)) → Meets S call → ⊥
-  no-wrong-call call wrong meets =
-      let input = shown .input in
-      let before = shown .before in
-      not-wrong (once input before (call input before) rightLeft (meets input before) (shown .right)) (wrong input before)
-
-  -- The same of a call whose number and place are packed into one result.
-  pub no-wrong-packed : (result : (input before : List ℕ) → ℕ) (after : (input before : List ℕ) → List ℕ)
-      → ((input before : List ℕ) → WrongCall order first input before (record { number = result input before; place = 0; after = after input before }))
-      → ((input before : List ℕ) → Packed S input before (result input before) (after input before)) → ⊥
-  no-wrong-packed result after wrong meets =
+  -- Nor does one that is like one of them on some inputs and like another on others.
+  pub none-wrong : NoneWrong S order first
+  none-wrong =
       let input = shown .input in
       let before = shown .before in
       let right : Packed S input before 0 (shown .out) = record { number = 0; place = 0; is = refl; called = shown .right } in
-      let (number, output) = packed-once once input before (meets input before) right in
-      not-wrong (λ i. record { number = number i; place = 0; after = output i }) (wrong input before)
+      record {
+        called =
+            λ call wrong meets.
+            not-wrong (once input before (call input before) rightLeft (meets input before) (shown .right)) (wrong input before);
+        exported =
+            λ result after wrong meets.
+            let (number, output) = packed-once once input before (meets input before) right in
+            not-wrong (λ i. record { number = number i; place = 0; after = output i }) (wrong input before);
+      }

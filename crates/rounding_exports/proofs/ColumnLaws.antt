@@ -1,23 +1,17 @@
 -- A call on columns leaves one number and one column of answers.
 use mathlib.Core.List.{List}
-use mathlib.Core.Path.{_≡_, refl, sym, _∙_, subst}
+use mathlib.Core.Path.{_≡_, sym, _∙_, ap, subst}
 use Prim.Native.Nat.{ℕ, _<_}
 use lib.ListN.{length}
 use lib.Seq.{ext-getD}
 use Rattle.patterns.specs.Format.{binary64}
+use Rattle.meaning.specs.Statement.{given}
+use Rattle.meaning.specs.Calls.{Left}
+use Rattle.meaning.proofs.Unique.{One}
+use Rattle.meaning.proofs.CalledLaws.{called-once}
 use Rattle.patterns.proofs.UpLaws.{up-unique}
 use Rattle.rounding_runs.specs.declared.roundings.Operation.{Operation}
-use Rattle.rounding_exports.specs.Columns.{Filled, Accepted, Tried, failed, passed, FilledOrRefused}
-
--- At most one number, and one column.
-abbrev Single : (ℕ → List ℕ → Type 0) → Type 0
-Single Leaves = (n n′ : ℕ) (after after′ : List ℕ) → Leaves n after → Leaves n′ after′ → (n ≡ n′) × (after ≡ after′)
-
-tried-once : {P : Type 0} {refusal : ℕ} {before : List ℕ} {Next : ℕ → List ℕ → Type 0} → Single Next → Single (Tried P refusal before Next)
-tried-once single n n′ after after′ (failed h) (failed k) = (refl, refl)
-tried-once single n n′ after after′ (failed h) (passed k _) = absurd (h k)
-tried-once single n n′ after after′ (passed h _) (failed k) = absurd (k h)
-tried-once single n n′ after after′ (passed _ h) (passed _ k) = single n n′ after after′ h k
+use Rattle.rounding_exports.specs.Columns.{Filled, FilledBy, filledBy, FilledOrRefused}
 
 module _ {o : Operation} {a b : List ℕ} where
   -- Upward rounding has one answer in each row.
@@ -28,9 +22,12 @@ module _ {o : Operation} {a b : List ℕ} where
       let row : k < length a = subst (λ (n : ℕ). k < n) (f .answers) less in
       up-unique binary64 (f .rounded k row) (f′ .rounded k row))
 
-  accepted-once : Single (Accepted o a b)
-  accepted-once n n′ after after′ h k = (h .accepted ∙ sym (k .accepted), rows-once (h .filled) (k .filled))
+  filled-by-once : One (FilledBy o (record { first = a; second = b }))
+  filled-by-once p q (filledBy f) (filledBy f′) = ap given (rows-once f f′)
 
   -- Two outcomes of a call are equal.
-  pub filled-once : {before : List ℕ} → Single (FilledOrRefused o a b before)
-  filled-once = tried-once (tried-once (tried-once accepted-once))
+  pub filled-once : {before : List ℕ} (n n′ : ℕ) (after after′ : List ℕ) → FilledOrRefused o a b before n after → FilledOrRefused o a b before n′ after′
+      → (n ≡ n′) × (after ≡ after′)
+  filled-once n n′ after after′ h k =
+      let same = called-once filled-by-once (record { number = n; place = 0; after = after }) (record { number = n′; place = 0; after = after′ }) h k in
+      (ap (λ (l : Left). l .number) same, ap (λ (l : Left). l .after) same)

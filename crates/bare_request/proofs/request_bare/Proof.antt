@@ -6,7 +6,7 @@ use Rattle.meaning.specs.Statement.{refused}
 use Rattle.meaning.specs.Calls.{failed, passed}
 use Rattle.meaning.specs.Requests.{BareRequest}
 use Rattle.request_laws.specs.Calls.{Leaves}
-use Rattle.request_laws.proofs.CalledLaws.{called-by}
+use Rattle.meaning.proofs.CalledLaws.{called-by}
 use Rattle.bare_request.specs.Conversions.{outcomeOf}
 use Rattle.bare_request.proofs.request_bare.Statement.{statement}
 use Rattle.bare_request.proofs.request_bare.Tie as tie

@@ -1,10 +1,11 @@
 -- `bench::answer_some` meets its contract. The run ends wherever no byte was taken, and only what the turn left is written.
 use mathlib.Core.Path.{_≡_, sym}
-use Prim.Native.Nat.{ℕ}
+use Prim.Native.Nat.{ℕ, _≤_}
 use native.Mathlib.Omega.{arith}
 use borrow.Author.Needs.{needs}
+use lib.ListN.{length}
 use lib.Seq.{length-take-le}
-use Rattle.bench.proofs.RunLaws.{onward, written-fits, left-by-turn}
+use Rattle.bench.proofs.RunLaws.{held-stays, onward, written-fits, left-by-turn}
 use Rattle.bench.proofs.answer_some.Statement.{statement}
 use Rattle.bench.proofs.answer_some.Tie as tie
 
@@ -39,7 +40,7 @@ same-length-2 : tie.Need-same-length-2
 same-length-2 c = search needs
 
 returns : tie.Need-returns
-returns c = λ ended. let none : _≡_ {A = ℕ} 0 1 = cc in omega arith
+returns c = λ ended. let none : _≡_ {A = ℕ} 0 1 = cc in absurd (omega arith)
 
 same-length-3 : tie.Need-same-length-3
 same-length-3 c = search needs
@@ -48,7 +49,12 @@ same-length-4 : tie.Need-same-length-4
 same-length-4 c = search needs
 
 returns-2 : tie.Need-returns-2
-returns-2 c = λ more. onward (c .before .before .before .before .before .before .before .turn .ensures) (omega arith) (omega arith) more
+returns-2 c =
+    let at-turn = c .before .before .before .before .before .before .before in
+    let args = at-turn .before .before .before .before .before .before .before .before .before .args in
+    let arrived = at-turn .before .before .before .before .before .arrive in
+    let within : args .run .held ≤ length (args .input .now) = omega arith in
+    λ more. onward (at-turn .turn .ensures) (held-stays (args .run .held) (args .input .now) (arrived .last .0) within) (omega arith) (omega arith) more
 
 pub answer-some-spec : {M : Type 1} → statement M
 answer-some-spec =

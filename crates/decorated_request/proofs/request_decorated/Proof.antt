@@ -6,7 +6,7 @@ use Rattle.meaning.specs.Statement.{refused}
 use Rattle.meaning.specs.Calls.{failed, passed}
 use Rattle.meaning.specs.Requests.{DecoratedRequest}
 use Rattle.request_laws.specs.Calls.{Leaves}
-use Rattle.request_laws.proofs.CalledLaws.{called-by}
+use Rattle.meaning.proofs.CalledLaws.{called-by}
 use Rattle.decorated_request.specs.Conversions.{outcomeOf}
 use Rattle.decorated_request.proofs.request_decorated.Statement.{statement}
 use Rattle.decorated_request.proofs.request_decorated.Tie as tie

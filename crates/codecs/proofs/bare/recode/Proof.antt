@@ -10,7 +10,7 @@ use Rattle.meaning.specs.Calls.{failed, passed}
 use Rattle.meaning.specs.Requests.{BareCodec}
 use Rattle.interval.specs.Conversions.{outcome}
 use Rattle.end_bytes.specs.Conversions.{orderOf}
-use Rattle.request_laws.proofs.CalledLaws.{called-by}
+use Rattle.meaning.proofs.CalledLaws.{called-by}
 use Rattle.request_laws.proofs.ReadLaws.{found₁}
 use Rattle.codecs.proofs.CodecLaws.{recoded, not-recoded}
 use Rattle.codecs.proofs.bare.recode.Statement.{statement}

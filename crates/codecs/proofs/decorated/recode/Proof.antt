@@ -9,7 +9,7 @@ use Rattle.meaning.specs.Calls.{failed, passed}
 use Rattle.meaning.specs.Requests.{DecoratedCodec}
 use Rattle.dec_interval.specs.Conversions.{decPairOf, decOutcome}
 use Rattle.end_bytes.specs.Conversions.{orderOf}
-use Rattle.request_laws.proofs.CalledLaws.{called-by}
+use Rattle.meaning.proofs.CalledLaws.{called-by}
 use Rattle.request_laws.proofs.ReadLaws.{found₁}
 use Rattle.codecs.proofs.CodecLaws.{recoded, not-recoded}
 use Rattle.codecs.proofs.decorated.recode.Statement.{statement}

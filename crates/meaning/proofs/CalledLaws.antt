@@ -2,26 +2,23 @@
 use mathlib.Core.Path.{_≡_, refl, sym, _∙_, ap}
 use mathlib.Core.List.{List, [], _∷_}
 use Prim.Native.Nat.{ℕ}
 use Rattle.meaning.specs.Statement.{Outcome, refused, given}
 use Rattle.meaning.specs.Calls.{Left, leftBy, Test, Tried, failed, passed, Chain, Called}
+use Rattle.meaning.proofs.Unique.{One}
 
--- At most one outcome.
-abbrev pub Single : {B : Type 0} → (Outcome B → Type 0) → Type 0
-Single {B} R = (o p : Outcome B) → R o → R p → o ≡ p
-
-tried-once : {P : Type 0} {number : ℕ} {Next : Outcome (List ℕ) → Type 0} → Single Next → Single (Tried P number Next)
+tried-once : {P : Type 0} {number : ℕ} {Next : Outcome (List ℕ) → Type 0} → One Next → One (Tried P number Next)
 tried-once single o p (failed h) (failed k) = refl
 tried-once single o p (failed h) (passed k _) = absurd (h k)
 tried-once single o p (passed h _) (failed k) = absurd (k h)
 tried-once single o p (passed _ h) (passed _ k) = single o p h k
 
-chain-once : {I : Type 0} (Outcomes : I → Outcome (List ℕ) → Type 0) (input : I) (before : List ℕ) (tests : List (Test I)) → Single (Outcomes input)
-    → Single (Chain tests Outcomes input before)
+chain-once : {I : Type 0} (Outcomes : I → Outcome (List ℕ) → Type 0) (input : I) (before : List ℕ) (tests : List (Test I)) → One (Outcomes input)
+    → One (Chain tests Outcomes input before)
 chain-once Outcomes input before [] single = single
 chain-once Outcomes input before (t ∷ ts) single = tried-once (chain-once Outcomes input before ts single)
 
 module _ {I : Type 0} {Outcomes : I → Outcome (List ℕ) → Type 0} {input : I} {before : List ℕ} where
-  pub called-once : {tests : List (Test I)} → Single (Outcomes input) → (l m : Left)
+  pub called-once : {tests : List (Test I)} → One (Outcomes input) → (l m : Left)
       → Called tests Outcomes input before (l .number) (l .place) (l .after)
       → Called tests Outcomes input before (m .number) (m .place) (m .after)
       → l ≡ m
