@@ -1,4 +1,5 @@
 -- `add_of` meets its contract: EMPTY has no sums, and the ends of others are rounded sums.
+use borrow.Author.Needs.{needs}
 use Rattle.patterns.specs.Format.{binary64, infinity, signBit}
 use Rattle.meaning.specs.Pairs.{minusInfinity}
 use Rattle.meaning.specs.Points.{add}
@@ -8,27 +9,9 @@ use Rattle.arith.proofs.BoundLaws.{sum-hull}
 use Rattle.arith.proofs.add_of.Statement.{statement}
 use Rattle.arith.proofs.add_of.Tie as tie
 
-either-empty-requires : tie.Need-either-empty-requires
-either-empty-requires c κs = tt
-
 returns : tie.Need-returns
 unfolding infinity minusInfinity signBit
 returns c = empty-hull₂ binary64 add _ _ (said-yes (c .before .either-empty .ensures) (c .if1 .taken))
-
-opposite-requires : tie.Need-opposite-requires
-opposite-requires c κs = tt
-
-opposite-requires-2 : tie.Need-opposite-requires-2
-opposite-requires-2 c κs = tt
-
-sum-end-requires : tie.Need-sum-end-requires
-sum-end-requires c κs = tt
-
-sum-end-requires-2 : tie.Need-sum-end-requires-2
-sum-end-requires-2 c κs = tt
-
-outward-requires : tie.Need-outward-requires
-outward-requires c κs = tt
 
 returns-2 : tie.Need-returns-2
 returns-2 c =
@@ -39,13 +22,5 @@ returns-2 c =
 
 pub add-of-spec : {M : Type 1} → statement M
 add-of-spec =
-    tie.close
-    (tie.spec
-    either-empty-requires
-    returns
-    opposite-requires
-    opposite-requires-2
-    sum-end-requires
-    sum-end-requires-2
-    outward-requires
-    returns-2)
+    tie.close (tie.spec (search needs) returns (search needs) (search needs) (search needs) (search needs)
+    (search needs) returns-2)

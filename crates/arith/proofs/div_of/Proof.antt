@@ -1,5 +1,6 @@
 -- `div_of` meets its contract: there is no quotient of EMPTY or by 0 alone, and the ends of others are those of the table.
 use mathlib.Core.Path.{sym, _∙_}
+use borrow.Author.Needs.{needs}
 use Rattle.patterns.specs.Format.{binary64, infinity, signBit}
 use Rattle.meaning.specs.Pairs.{minusInfinity}
 use Rattle.meaning.specs.Points.{div}
@@ -9,18 +10,12 @@ use Rattle.arith.proofs.BoundLaws.{divides, quotient-hull, no-quotient}
 use Rattle.arith.proofs.div_of.Statement.{statement}
 use Rattle.arith.proofs.div_of.Tie as tie
 
-either-empty-requires : tie.Need-either-empty-requires
-either-empty-requires c κs = tt
-
 returns : tie.Need-returns
 unfolding infinity minusInfinity signBit
 returns c = empty-hull₂ binary64 div _ _ (said-yes (c .before .either-empty .ensures) (c .if1 .taken))
 
 classify-requires : tie.Need-classify-requires
 classify-requires c κs = c .before .before .pre .1
-
-is-zero-requires : tie.Need-is-zero-requires
-is-zero-requires c κs = tt
 
 returns-2 : tie.Need-returns-2
 unfolding infinity minusInfinity signBit
@@ -33,18 +28,6 @@ returns-2 c =
 classify-requires-2 : tie.Need-classify-requires-2
 classify-requires-2 c κs = c .before .before .before .before .before .pre .0
 
-kind-of-requires : tie.Need-kind-of-requires
-kind-of-requires c κs = tt
-
-mirrored-kind-requires : tie.Need-mirrored-kind-requires
-mirrored-kind-requires c κs = tt
-
-quotient-corner-requires : tie.Need-quotient-corner-requires
-quotient-corner-requires c κs = tt
-
-mirrored-requires : tie.Need-mirrored-requires
-mirrored-requires c κs = tt
-
 quotient-at-requires : tie.Need-quotient-at-requires
 quotient-at-requires c κs =
     let class = c .before .before .before .before .before .before .before in
@@ -53,9 +36,6 @@ quotient-at-requires c κs =
     (divides binary64 _ _ (neither-empty binary64 (test .before .before .pre) (said-no (test .before .either-empty .ensures) (test .if1 .left)))
     (class .classify .ensures) (c .before .before .mirrored-kind .result))
 
-quotient-corner-requires-2 : tie.Need-quotient-corner-requires-2
-quotient-corner-requires-2 c κs = tt
-
 quotient-at-requires-2 : tie.Need-quotient-at-requires-2
 quotient-at-requires-2 c κs =
     let class = c .before .before .before .before .before .before .before .before .before in
@@ -63,9 +43,6 @@ quotient-at-requires-2 c κs =
     rw (c .quotient-corner2 .ensures)
     (divides binary64 _ _ (neither-empty binary64 (test .before .before .pre) (said-no (test .before .either-empty .ensures) (test .if1 .left)))
     (class .classify .ensures) (c .before .before .before .before .before .kind-of .result))
-
-outward-requires : tie.Need-outward-requires
-outward-requires c κs = tt
 
 returns-3 : tie.Need-returns-3
 returns-3 c =
@@ -83,20 +60,6 @@ returns-3 c =
 
 pub div-of-spec : {M : Type 1} → statement M
 div-of-spec =
-    tie.close
-    (tie.spec
-    either-empty-requires
-    returns
-    classify-requires
-    is-zero-requires
-    returns-2
-    classify-requires-2
-    kind-of-requires
-    mirrored-kind-requires
-    quotient-corner-requires
-    mirrored-requires
-    quotient-at-requires
-    quotient-corner-requires-2
-    quotient-at-requires-2
-    outward-requires
-    returns-3)
+    tie.close (tie.spec (search needs) returns classify-requires (search needs) returns-2 classify-requires-2
+    (search needs) (search needs) (search needs) (search needs) quotient-at-requires (search needs)
+    quotient-at-requires-2 (search needs) returns-3)

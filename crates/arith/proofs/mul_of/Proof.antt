@@ -1,4 +1,5 @@
 -- `mul_of` meets its contract: EMPTY has no products, and the ends of others are those of the table.
+use borrow.Author.Needs.{needs}
 use Rattle.patterns.specs.Format.{binary64, infinity, signBit}
 use Rattle.meaning.specs.Pairs.{minusInfinity}
 use Rattle.meaning.specs.Points.{mul}
@@ -8,9 +9,6 @@ use Rattle.arith.proofs.BoundLaws.{product-hull}
 use Rattle.arith.proofs.mul_of.Statement.{statement}
 use Rattle.arith.proofs.mul_of.Tie as tie
 
-either-empty-requires : tie.Need-either-empty-requires
-either-empty-requires c κs = tt
-
 returns : tie.Need-returns
 unfolding infinity minusInfinity signBit
 returns c = empty-hull₂ binary64 mul _ _ (said-yes (c .before .either-empty .ensures) (c .if1 .taken))
@@ -18,35 +16,8 @@ returns c = empty-hull₂ binary64 mul _ _ (said-yes (c .before .either-empty .e
 classify-requires : tie.Need-classify-requires
 classify-requires c κs = c .before .before .pre .0
 
-kind-of-requires : tie.Need-kind-of-requires
-kind-of-requires c κs = tt
-
 classify-requires-2 : tie.Need-classify-requires-2
 classify-requires-2 c κs = c .before .before .before .before .pre .1
-
-kind-of-requires-2 : tie.Need-kind-of-requires-2
-kind-of-requires-2 c κs = tt
-
-mirrored-kind-requires : tie.Need-mirrored-kind-requires
-mirrored-kind-requires c κs = tt
-
-product-corner-requires : tie.Need-product-corner-requires
-product-corner-requires c κs = tt
-
-mirrored-requires : tie.Need-mirrored-requires
-mirrored-requires c κs = tt
-
-product-at-requires : tie.Need-product-at-requires
-product-at-requires c κs = tt
-
-product-corner-requires-2 : tie.Need-product-corner-requires-2
-product-corner-requires-2 c κs = tt
-
-product-at-requires-2 : tie.Need-product-at-requires-2
-product-at-requires-2 c κs = tt
-
-outward-requires : tie.Need-outward-requires
-outward-requires c κs = tt
 
 returns-2 : tie.Need-returns-2
 returns-2 c =
@@ -62,19 +33,6 @@ returns-2 c =
 
 pub mul-of-spec : {M : Type 1} → statement M
 mul-of-spec =
-    tie.close
-    (tie.spec
-    either-empty-requires
-    returns
-    classify-requires
-    kind-of-requires
-    classify-requires-2
-    kind-of-requires-2
-    mirrored-kind-requires
-    product-corner-requires
-    mirrored-requires
-    product-at-requires
-    product-corner-requires-2
-    product-at-requires-2
-    outward-requires
+    tie.close (tie.spec (search needs) returns classify-requires (search needs) classify-requires-2 (search needs)
+    (search needs) (search needs) (search needs) (search needs) (search needs) (search needs) (search needs)
     returns-2)

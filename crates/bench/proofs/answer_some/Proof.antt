@@ -9,21 +9,6 @@ use Rattle.bench.proofs.RunLaws.{held-stays, onward, written-fits, left
 use Rattle.bench.proofs.answer_some.Statement.{statement}
 use Rattle.bench.proofs.answer_some.Tie as tie
 
-sub-arrive : tie.Need-sub-arrive
-sub-arrive c = search needs
-
-part-arrive-start : tie.Need-part-arrive-start
-part-arrive-start c = search needs
-
-part-arrive-end : tie.Need-part-arrive-end
-part-arrive-end c = search needs
-
-arrive-requires : tie.Need-arrive-requires
-arrive-requires c κs = search needs
-
-turn-requires : tie.Need-turn-requires
-turn-requires c κs = search needs
-
 slice-reshare-prefix-write-left : tie.Need-slice-reshare-prefix-write-left
 slice-reshare-prefix-write-left c = written-fits (c .before .before .before .before .turn .ensures)
 
@@ -33,20 +18,8 @@ slice-aggregate-write-left c = sym (length-take-le _ _ (written-fits (c .before 
 write-left-requires : tie.Need-write-left-requires
 write-left-requires c κs = left-by-turn (c .before .before .before .before .before .turn .ensures)
 
-same-length : tie.Need-same-length
-same-length c = search needs
-
-same-length-2 : tie.Need-same-length-2
-same-length-2 c = search needs
-
 returns : tie.Need-returns
 returns c = λ ended. let none : _≡_ {A = ℕ} 0 1 = cc in absurd (omega arith)
-
-same-length-3 : tie.Need-same-length-3
-same-length-3 c = search needs
-
-same-length-4 : tie.Need-same-length-4
-same-length-4 c = search needs
 
 returns-2 : tie.Need-returns-2
 returns-2 c =
@@ -58,19 +31,6 @@ returns-2 c =
 
 pub answer-some-spec : {M : Type 1} → statement M
 answer-some-spec =
-    tie.close
-    (tie.spec
-    sub-arrive
-    part-arrive-start
-    part-arrive-end
-    arrive-requires
-    turn-requires
-    slice-reshare-prefix-write-left
-    slice-aggregate-write-left
-    write-left-requires
-    same-length
-    same-length-2
-    returns
-    same-length-3
-    same-length-4
-    returns-2)
+    tie.close (tie.spec (search needs) (search needs) (search needs) (search needs) (search needs)
+    slice-reshare-prefix-write-left slice-aggregate-write-left write-left-requires (search needs) (search needs)
+    returns (search needs) (search needs) returns-2)

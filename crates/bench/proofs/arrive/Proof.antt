@@ -47,17 +47,5 @@ returns-2 c = search needs
 
 pub arrive-spec : {M : Type 1} → statement M
 arrive-spec =
-    tie.close
-    (tie.spec
-    Inv-loop
-    μ-loop
-    loop-holds
-    read-requires
-    count-requires
-    same-length
-    returns
-    add-tries
-    loop-less
-    loop-again
-    same-length-2
-    returns-2)
+    tie.close (tie.spec Inv-loop μ-loop loop-holds read-requires count-requires same-length returns add-tries
+    loop-less loop-again same-length-2 returns-2)

@@ -36,14 +36,5 @@ loop-again c =
 
 pub main-spec : {M : Type 1} → statement M
 main-spec =
-    tie.close
-    (tie.spec
-    Inv-loop
-    μ-loop
-    loop-holds
-    slice-aggregate-answer-some
-    slice-aggregate-answer-some-2
-    answer-some-requires
-    returns
-    loop-less
-    loop-again)
+    tie.close (tie.spec Inv-loop μ-loop loop-holds slice-aggregate-answer-some slice-aggregate-answer-some-2
+    answer-some-requires returns loop-less loop-again)

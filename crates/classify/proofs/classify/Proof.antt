@@ -1,5 +1,6 @@
 -- `classify::classify` meets its contract: the tests on the keys of the ends are the signs of their values.
 use native.Mathlib.Omega.{arith}
+use borrow.Author.Needs.{needs}
 use Rattle.patterns.specs.Format.{binary64, signBit}
 use Rattle.meaning.specs.Pairs.{EmptyPair, setOf}
 use Rattle.end_pairs.specs.Conversions.{pairOf}
@@ -16,17 +17,8 @@ seen k = shape binary64 _ (k .before .before .before .before .pre)
 some : (k : tie.After-key2) → EmptyPair binary64 (pairOf (k .before .before .before .before .args .x)) → ⊥
 some k = said-no (k .before .before .before .is-empty-pair .ensures) (k .before .before .if1 .left)
 
-is-empty-pair-requires : tie.Need-is-empty-pair-requires
-is-empty-pair-requires c κs = tt
-
 returns : tie.Need-returns
 returns c = class-empty (said-yes (answers-nothing binary64 _ (c .before .before .pre) (c .before .is-empty-pair .ensures)) (c .if1 .taken))
-
-key-requires : tie.Need-key-requires
-key-requires c κs = tt
-
-key-requires-2 : tie.Need-key-requires-2
-key-requires-2 c κs = tt
 
 returns-2 : tie.Need-returns-2
 unfolding signBit
@@ -62,15 +54,5 @@ returns-7 c =
 
 pub classify-spec : {M : Type 1} → statement M
 classify-spec =
-    tie.close
-    (tie.spec
-    is-empty-pair-requires
-    returns
-    key-requires
-    key-requires-2
-    returns-2
-    returns-3
-    returns-4
-    returns-5
-    returns-6
-    returns-7)
+    tie.close (tie.spec (search needs) returns (search needs) (search needs) returns-2 returns-3 returns-4 returns-5
+    returns-6 returns-7)

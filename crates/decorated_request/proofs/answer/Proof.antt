@@ -10,48 +10,6 @@ use Rattle.decorated_request.specs.Conversions.{outcomeOf}
 use Rattle.decorated_request.proofs.answer.Statement.{statement}
 use Rattle.decorated_request.proofs.answer.Tie as tie
 
-shared-slice-read-numbered : tie.Need-shared-slice-read-numbered
-shared-slice-read-numbered c = search needs
-
-numbered-requires : tie.Need-numbered-requires
-numbered-requires c κs = tt
-
-enum-known-f : tie.Need-enum-known-f
-enum-known-f c = c .match .keys1
-
-decorated-at-requires : tie.Need-decorated-at-requires
-decorated-at-requires c κs = search needs
-
-one-operand-requires : tie.Need-one-operand-requires
-one-operand-requires c κs = tt
-
-enum-known-o : tie.Need-enum-known-o
-enum-known-o c = c .match .keys2
-
-decorated-at-requires-2 : tie.Need-decorated-at-requires-2
-decorated-at-requires-2 c κs = search needs
-
-decorated-at-requires-3 : tie.Need-decorated-at-requires-3
-decorated-at-requires-3 c κs = search needs
-
-two-operands-requires : tie.Need-two-operands-requires
-two-operands-requires c κs = tt
-
-enum-told : tie.Need-enum-told
-enum-told c = c .match .keys3
-
-decorated-at-requires-4 : tie.Need-decorated-at-requires-4
-decorated-at-requires-4 c κs = search needs
-
-decorated-at-requires-5 : tie.Need-decorated-at-requires-5
-decorated-at-requires-5 c κs = search needs
-
-overlap-state-requires : tie.Need-overlap-state-requires
-overlap-state-requires c κs = tt
-
-enum-told-2 : tie.Need-enum-told-2
-enum-told-2 c = c .match .keys4
-
 returns : tie.Need-returns
 returns c =
     let told = c .before .before .before in
@@ -76,23 +34,6 @@ returns-4 c = failed (λ k. nothing-asked (c .before .before .numbered .ensures)
 
 pub answer-spec : {M : Type 1} → statement M
 answer-spec =
-    tie.close
-    (tie.spec
-    shared-slice-read-numbered
-    numbered-requires
-    enum-known-f
-    decorated-at-requires
-    one-operand-requires
-    enum-known-o
-    decorated-at-requires-2
-    decorated-at-requires-3
-    two-operands-requires
-    enum-told
-    decorated-at-requires-4
-    decorated-at-requires-5
-    overlap-state-requires
-    enum-told-2
-    returns
-    returns-2
-    returns-3
-    returns-4)
+    tie.close (tie.spec (search needs) (search needs) (search needs) (search needs) (search needs) (search needs)
+    (search needs) (search needs) (search needs) (search needs) (search needs) (search needs) (search needs)
+    (search needs) returns returns-2 returns-3 returns-4)

@@ -17,15 +17,6 @@ returns c = called-by (refused 1 0) (failed (c .if1 .taken))
 returns-2 : tie.Need-returns-2
 returns-2 c = called-by (refused 2 0) (passed (c .before .if1 .left) (failed (c .if2 .taken)))
 
-answer-requires : tie.Need-answer-requires
-answer-requires c κs = search needs
-
-finish-requires : tie.Need-finish-requires
-finish-requires c κs = search needs
-
-same-length : tie.Need-same-length
-same-length c = search needs
-
 returns-3 : tie.Need-returns-3
 returns-3 c =
     let answered = c .before .before .before .before in
@@ -35,5 +26,4 @@ returns-3 c =
     (passed (answered .before .before .if1 .left) (passed (answered .before .if2 .left) (answered .answer .ensures))))
 
 pub request-decorated-spec : {M : Type 1} → statement M
-request-decorated-spec =
-    tie.close (tie.spec returns returns-2 answer-requires finish-requires same-length returns-3)
+request-decorated-spec = tie.close (tie.spec returns returns-2 (search needs) (search needs) (search needs) returns-3)

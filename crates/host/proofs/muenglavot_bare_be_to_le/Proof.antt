@@ -6,18 +6,8 @@ use Rattle.request_laws.proofs.SmallLaws.{bare-codec-small}
 use Rattle.host.proofs.muenglavot_bare_be_to_le.Statement.{statement}
 use Rattle.host.proofs.muenglavot_bare_be_to_le.Tie as tie
 
-bare-be-to-le-requires : tie.Need-bare-be-to-le-requires
-bare-be-to-le-requires c κs = search needs
-
 packed-requires : tie.Need-packed-requires
 packed-requires c κs = bare-codec-small binary64 bigEndian littleEndian (c .before .before .bare-be-to-le .ensures)
 
-same-length : tie.Need-same-length
-same-length c = search needs
-
-returns : tie.Need-returns
-returns c = search needs
-
 pub muenglavot-bare-be-to-le-spec : {M : Type 1} → statement M
-muenglavot-bare-be-to-le-spec =
-    tie.close (tie.spec bare-be-to-le-requires packed-requires same-length returns)
+muenglavot-bare-be-to-le-spec = tie.close (tie.spec (search needs) packed-requires (search needs) (search needs))

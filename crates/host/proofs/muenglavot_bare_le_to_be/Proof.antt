@@ -6,18 +6,8 @@ use Rattle.request_laws.proofs.SmallLaws.{bare-codec-small}
 use Rattle.host.proofs.muenglavot_bare_le_to_be.Statement.{statement}
 use Rattle.host.proofs.muenglavot_bare_le_to_be.Tie as tie
 
-bare-le-to-be-requires : tie.Need-bare-le-to-be-requires
-bare-le-to-be-requires c κs = search needs
-
 packed-requires : tie.Need-packed-requires
 packed-requires c κs = bare-codec-small binary64 littleEndian bigEndian (c .before .before .bare-le-to-be .ensures)
 
-same-length : tie.Need-same-length
-same-length c = search needs
-
-returns : tie.Need-returns
-returns c = search needs
-
 pub muenglavot-bare-le-to-be-spec : {M : Type 1} → statement M
-muenglavot-bare-le-to-be-spec =
-    tie.close (tie.spec bare-le-to-be-requires packed-requires same-length returns)
+muenglavot-bare-le-to-be-spec = tie.close (tie.spec (search needs) packed-requires (search needs) (search needs))

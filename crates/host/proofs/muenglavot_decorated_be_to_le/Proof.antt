@@ -6,18 +6,8 @@ use Rattle.request_laws.proofs.SmallLaws.{decorated-codec-small}
 use Rattle.host.proofs.muenglavot_decorated_be_to_le.Statement.{statement}
 use Rattle.host.proofs.muenglavot_decorated_be_to_le.Tie as tie
 
-decorated-be-to-le-requires : tie.Need-decorated-be-to-le-requires
-decorated-be-to-le-requires c κs = search needs
-
 packed-requires : tie.Need-packed-requires
 packed-requires c κs = decorated-codec-small binary64 bigEndian littleEndian (c .before .before .decorated-be-to-le .ensures)
 
-same-length : tie.Need-same-length
-same-length c = search needs
-
-returns : tie.Need-returns
-returns c = search needs
-
 pub muenglavot-decorated-be-to-le-spec : {M : Type 1} → statement M
-muenglavot-decorated-be-to-le-spec =
-    tie.close (tie.spec decorated-be-to-le-requires packed-requires same-length returns)
+muenglavot-decorated-be-to-le-spec = tie.close (tie.spec (search needs) packed-requires (search needs) (search needs))

@@ -6,18 +6,8 @@ use Rattle.request_laws.proofs.SmallLaws.{decorated-codec-small}
 use Rattle.host.proofs.muenglavot_decorated_le_to_be.Statement.{statement}
 use Rattle.host.proofs.muenglavot_decorated_le_to_be.Tie as tie
 
-decorated-le-to-be-requires : tie.Need-decorated-le-to-be-requires
-decorated-le-to-be-requires c κs = search needs
-
 packed-requires : tie.Need-packed-requires
 packed-requires c κs = decorated-codec-small binary64 littleEndian bigEndian (c .before .before .decorated-le-to-be .ensures)
 
-same-length : tie.Need-same-length
-same-length c = search needs
-
-returns : tie.Need-returns
-returns c = search needs
-
 pub muenglavot-decorated-le-to-be-spec : {M : Type 1} → statement M
-muenglavot-decorated-le-to-be-spec =
-    tie.close (tie.spec decorated-le-to-be-requires packed-requires same-length returns)
+muenglavot-decorated-le-to-be-spec = tie.close (tie.spec (search needs) packed-requires (search needs) (search needs))

@@ -5,18 +5,8 @@ use Rattle.request_laws.proofs.SmallLaws.{decorated-request-small}
 use Rattle.host.proofs.muenglavot_request_decorated.Statement.{statement}
 use Rattle.host.proofs.muenglavot_request_decorated.Tie as tie
 
-request-decorated-requires : tie.Need-request-decorated-requires
-request-decorated-requires c κs = search needs
-
 packed-requires : tie.Need-packed-requires
 packed-requires c κs = decorated-request-small binary64 (c .before .before .request-decorated .ensures)
 
-same-length : tie.Need-same-length
-same-length c = search needs
-
-returns : tie.Need-returns
-returns c = search needs
-
 pub muenglavot-request-decorated-spec : {M : Type 1} → statement M
-muenglavot-request-decorated-spec =
-    tie.close (tie.spec request-decorated-requires packed-requires same-length returns)
+muenglavot-request-decorated-spec = tie.close (tie.spec (search needs) packed-requires (search needs) (search needs))

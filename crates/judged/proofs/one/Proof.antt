@@ -1,20 +1,12 @@
 -- `one` meets its contract: what is found wrong is refused, and a sound operand is answered.
+use borrow.Author.Needs.{needs}
 use Rattle.interval.proofs.StatementLaws.{sound-bare}
 use Rattle.operands.proofs.TakenLaws.{sound₁, given₁, refused₁}
 use Rattle.judged.proofs.one.Statement.{statement}
 use Rattle.judged.proofs.one.Tie as tie
 
-take-one-requires : tie.Need-take-one-requires
-take-one-requires c κs = tt
-
-enum-told : tie.Need-enum-told
-enum-told c = c .match .keys1
-
 image-requires : tie.Need-image-requires
 image-requires c κs = sound-bare (sound₁ (c .before .before .take-one .ensures) (c .enum-told .given .1))
-
-enum-known-n : tie.Need-enum-known-n
-enum-known-n c = c .match .keys2
 
 returns : tie.Need-returns
 returns c = given₁ (c .before .before .before .take-one .ensures) (c .before .enum-told .given .1) (c .image .ensures)
@@ -23,4 +15,4 @@ returns-2 : tie.Need-returns-2
 returns-2 c = refused₁ (c .before .before .before .take-one .ensures) (c .before .n .given .1)
 
 pub one-spec : {M : Type 1} → statement M
-one-spec = tie.close (tie.spec take-one-requires enum-told image-requires enum-known-n returns returns-2)
+one-spec = tie.close (tie.spec (search needs) (search needs) image-requires (search needs) returns returns-2)

@@ -1,22 +1,14 @@
 -- `two` meets its contract: what is found wrong is refused, and sound operands are answered.
+use borrow.Author.Needs.{needs}
 use Rattle.interval.proofs.StatementLaws.{sound-bare}
 use Rattle.operands.proofs.TakenLaws.{sound₂, given₂, refused₂}
 use Rattle.judged.proofs.two.Statement.{statement}
 use Rattle.judged.proofs.two.Tie as tie
 
-take-two-requires : tie.Need-take-two-requires
-take-two-requires c κs = tt
-
-enum-told : tie.Need-enum-told
-enum-told c = c .match .keys1
-
 combine-requires : tie.Need-combine-requires
 combine-requires c κs =
     let (x, y) = sound₂ (c .before .before .take-two .ensures) (c .enum-told .given .1) in
     (sound-bare x, sound-bare y)
-
-enum-known-n : tie.Need-enum-known-n
-enum-known-n c = c .match .keys2
 
 returns : tie.Need-returns
 returns c = given₂ (c .before .before .before .take-two .ensures) (c .before .enum-told .given .1) (c .combine .ensures)
@@ -25,4 +17,4 @@ returns-2 : tie.Need-returns-2
 returns-2 c = refused₂ (c .before .before .before .take-two .ensures) (c .before .n .given .1)
 
 pub two-spec : {M : Type 1} → statement M
-two-spec = tie.close (tie.spec take-two-requires enum-told combine-requires enum-known-n returns returns-2)
+two-spec = tie.close (tie.spec (search needs) (search needs) combine-requires (search needs) returns returns-2)

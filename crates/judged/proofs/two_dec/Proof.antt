@@ -1,19 +1,11 @@
 -- `two_dec` meets its contract: what is found wrong is refused, and sound operands are answered.
+use borrow.Author.Needs.{needs}
 use Rattle.operands.proofs.TakenLaws.{sound₂, given₂, refused₂}
 use Rattle.judged.proofs.two_dec.Statement.{statement}
 use Rattle.judged.proofs.two_dec.Tie as tie
 
-take-two-dec-requires : tie.Need-take-two-dec-requires
-take-two-dec-requires c κs = tt
-
-enum-told : tie.Need-enum-told
-enum-told c = c .match .keys1
-
 combine-dec-requires : tie.Need-combine-dec-requires
 combine-dec-requires c κs = sound₂ (c .before .before .take-two-dec .ensures) (c .enum-told .given .1)
-
-enum-known-n : tie.Need-enum-known-n
-enum-known-n c = c .match .keys2
 
 returns : tie.Need-returns
 returns c = given₂ (c .before .before .before .take-two-dec .ensures) (c .before .enum-told .given .1) (c .combine-dec .ensures)
@@ -22,4 +14,5 @@ returns-2 : tie.Need-returns-2
 returns-2 c = refused₂ (c .before .before .before .take-two-dec .ensures) (c .before .n .given .1)
 
 pub two-dec-spec : {M : Type 1} → statement M
-two-dec-spec = tie.close (tie.spec take-two-dec-requires enum-told combine-dec-requires enum-known-n returns returns-2)
+two-dec-spec =
+    tie.close (tie.spec (search needs) (search needs) combine-dec-requires (search needs) returns returns-2)

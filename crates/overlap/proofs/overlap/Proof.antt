@@ -1,24 +1,16 @@
 -- `overlap` meets its contract: what is found wrong is refused, and sound operands are answered.
 use mathlib.Core.Path.{refl}
+use borrow.Author.Needs.{needs}
 use Rattle.interval.proofs.StatementLaws.{sound-bare}
 use Rattle.operands.proofs.TakenLaws.{sound₂, given₂, refused₂}
 use Rattle.overlap.specs.Conversions.{stateOf}
 use Rattle.overlap.proofs.overlap.Statement.{statement}
 use Rattle.overlap.proofs.overlap.Tie as tie
 
-take-two-requires : tie.Need-take-two-requires
-take-two-requires c κs = tt
-
-enum-told : tie.Need-enum-told
-enum-told c = c .match .keys1
-
 overlap-of-requires : tie.Need-overlap-of-requires
 overlap-of-requires c κs =
     let (x, y) = sound₂ (c .before .before .take-two .ensures) (c .enum-told .given .1) in
     (sound-bare x, sound-bare y)
-
-enum-known-n : tie.Need-enum-known-n
-enum-known-n c = c .match .keys2
 
 returns : tie.Need-returns
 returns c =
@@ -29,5 +21,4 @@ returns-2 : tie.Need-returns-2
 returns-2 c = refused₂ (c .before .before .before .take-two .ensures) (c .before .n .given .1)
 
 pub overlap-spec : {M : Type 1} → statement M
-overlap-spec =
-    tie.close (tie.spec take-two-requires enum-told overlap-of-requires enum-known-n returns returns-2)
+overlap-spec = tie.close (tie.spec (search needs) (search needs) overlap-of-requires (search needs) returns returns-2)

@@ -22,9 +22,6 @@ returns-2 : tie.Need-returns-2
 unfolding magnitude signBit
 returns-2 c = product-second-zero binary64 (c .before .before .args .a) (c .before .before .args .b) (c .if2 .taken)
 
-differ-requires : tie.Need-differ-requires
-differ-requires c κs = search needs
-
 normalise-requires : tie.Need-normalise-requires
 unfolding magnitude signBit
 normalise-requires c κs = (pos-of-ne-zero (c .before .before .if1 .left), c .before .before .before .pre .0 .finite)
@@ -32,12 +29,6 @@ normalise-requires c κs = (pos-of-ne-zero (c .before .before .if1 .left), c .be
 normalise-requires-2 : tie.Need-normalise-requires-2
 unfolding magnitude signBit
 normalise-requires-2 c κs = (pos-of-ne-zero (c .before .before .if2 .left), c .before .before .before .before .pre .1 .finite)
-
-product-requires : tie.Need-product-requires
-product-requires c κs = search needs
-
-round-up-requires : tie.Need-round-up-requires
-round-up-requires c κs = search needs
 
 returns-3 : tie.Need-returns-3
 unfolding magnitude signBit
@@ -57,13 +48,5 @@ returns-3 c =
 
 pub mul-ru-spec : {M : Type 1} → statement M
 mul-ru-spec =
-    tie.close
-    (tie.spec
-    returns
-    returns-2
-    differ-requires
-    normalise-requires
-    normalise-requires-2
-    product-requires
-    round-up-requires
-    returns-3)
+    tie.close (tie.spec returns returns-2 (search needs) normalise-requires normalise-requires-2 (search needs)
+    (search needs) returns-3)

@@ -19,9 +19,6 @@ returns : tie.Need-returns
 unfolding magnitude signBit
 returns c = quotient-zero binary64 (c .before .args .a) (c .before .args .b) (pos-of-ne-zero (c .before .pre .2)) (c .if1 .taken)
 
-differ-requires : tie.Need-differ-requires
-differ-requires c κs = search needs
-
 normalise-requires : tie.Need-normalise-requires
 unfolding magnitude signBit
 normalise-requires c κs = (pos-of-ne-zero (c .before .if1 .left), c .before .before .pre .0 .finite)
@@ -31,12 +28,6 @@ unfolding magnitude signBit
 normalise-requires-2 c κs =
     let start = c .before .before .before in
     (pos-of-ne-zero (λ none. start .pre .2 (ap (value 52) none ∙ value-zero 52)), start .pre .1 .finite)
-
-quotient-requires : tie.Need-quotient-requires
-quotient-requires c κs = search needs
-
-round-up-requires : tie.Need-round-up-requires
-round-up-requires c κs = search needs
 
 returns-2 : tie.Need-returns-2
 unfolding magnitude signBit
@@ -57,12 +48,5 @@ returns-2 c =
 
 pub div-ru-spec : {M : Type 1} → statement M
 div-ru-spec =
-    tie.close
-    (tie.spec
-    returns
-    differ-requires
-    normalise-requires
-    normalise-requires-2
-    quotient-requires
-    round-up-requires
+    tie.close (tie.spec returns (search needs) normalise-requires normalise-requires-2 (search needs) (search needs)
     returns-2)

@@ -32,14 +32,5 @@ returns-2 c = tt
 
 pub judge-all-spec : {M : Type 1} → statement M
 judge-all-spec =
-    tie.close
-    (tie.spec
-    Inv-loop
-    μ-loop
-    loop-holds
-    judge-some-requires
-    sub-turns
-    loop-less
-    loop-again
-    returns
+    tie.close (tie.spec Inv-loop μ-loop loop-holds judge-some-requires sub-turns loop-less loop-again returns
     returns-2)

@@ -83,20 +83,6 @@ returns c =
 
 pub fill-spec : {M : Type 1} → statement M
 fill-spec =
-    tie.close
-    (tie.spec
-    Inv-loop
-    μ-loop
-    loop-holds
-    mul-rounded
-    shared-slice-read-rounded
-    mul-rounded-2
-    shared-slice-read-rounded-2
-    rounded-requires
-    mul-out
-    slice-write-out
-    add-k
-    loop-less
-    loop-again
-    same-length
+    tie.close (tie.spec Inv-loop μ-loop loop-holds mul-rounded shared-slice-read-rounded mul-rounded-2
+    shared-slice-read-rounded-2 rounded-requires mul-out slice-write-out add-k loop-less loop-again same-length
     returns)

@@ -15,9 +15,6 @@ returns c = called-by (refused 1 0) (failed (c .if1 .taken))
 returns-2 : tie.Need-returns-2
 returns-2 c = called-by (refused 2 0) (passed (search needs) (failed (c .if2 .taken)))
 
-takes-rows-requires : tie.Need-takes-rows-requires
-takes-rows-requires c κs = search needs
-
 returns-3 : tie.Need-returns-3
 returns-3 c =
     called-by (refused 5 0)
@@ -25,9 +22,6 @@ returns-3 c =
 
 fill-requires : tie.Need-fill-requires
 fill-requires c κs = (search needs, search needs, said-yes (c .before .before .takes-rows .ensures) (not-false _ (c .before .if3 .left)))
-
-same-length : tie.Need-same-length
-same-length c = search needs
 
 returns-4 : tie.Need-returns-4
 returns-4 c =
@@ -40,5 +34,4 @@ returns-4 c =
 
 pub fill-or-refuse-spec : {M : Type 1} → statement M
 fill-or-refuse-spec =
-    tie.close
-    (tie.spec returns returns-2 takes-rows-requires returns-3 fill-requires same-length returns-4)
+    tie.close (tie.spec returns returns-2 (search needs) returns-3 fill-requires (search needs) returns-4)

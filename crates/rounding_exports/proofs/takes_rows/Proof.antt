@@ -58,17 +58,5 @@ returns c =
 
 pub takes-rows-spec : {M : Type 1} → statement M
 takes-rows-spec =
-    tie.close
-    (tie.spec
-    Inv-loop
-    μ-loop
-    loop-holds
-    mul-takes
-    shared-slice-read-takes
-    mul-takes-2
-    shared-slice-read-takes-2
-    takes-requires
-    add-k
-    loop-less
-    loop-again
-    returns)
+    tie.close (tie.spec Inv-loop μ-loop loop-holds mul-takes shared-slice-read-takes mul-takes-2
+    shared-slice-read-takes-2 takes-requires add-k loop-less loop-again returns)

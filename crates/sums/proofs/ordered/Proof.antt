@@ -12,15 +12,9 @@ use Rattle.sums.proofs.SignedSums.{sum-up}
 use Rattle.sums.proofs.ordered.Statement.{statement}
 use Rattle.sums.proofs.ordered.Tie as tie
 
-differ-requires : tie.Need-differ-requires
-differ-requires c κs = search needs
-
 combined-requires : tie.Need-combined-requires
 unfolding magnitude signBit
 combined-requires c κs = let (finite, ordered) = c .before .pre in (ordered, finite .finite)
-
-round-up-requires : tie.Need-round-up-requires
-round-up-requires c κs = search needs
 
 returns : tie.Need-returns
 unfolding magnitude signBit
@@ -35,4 +29,4 @@ returns c =
     (c .round-up .ensures _ 1 (lit< tt) (c .before .combined .ensures .1 .1)))
 
 pub ordered-spec : {M : Type 1} → statement M
-ordered-spec = tie.close (tie.spec differ-requires combined-requires round-up-requires returns)
+ordered-spec = tie.close (tie.spec (search needs) combined-requires (search needs) returns)

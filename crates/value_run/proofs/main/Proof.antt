@@ -32,14 +32,5 @@ returns-2 c = tt
 
 pub main-spec : {M : Type 1} → statement M
 main-spec =
-    tie.close
-    (tie.spec
-    Inv-loop
-    μ-loop
-    loop-holds
-    answer-next-requires
-    returns
-    sub-left
-    loop-less
-    loop-again
+    tie.close (tie.spec Inv-loop μ-loop loop-holds answer-next-requires returns sub-left loop-less loop-again
     returns-2)

@@ -1,5 +1,6 @@
 -- `bare::abs_of` meets its contract: each class says which sign the members have.
 use mathlib.Core.Path.{subst⁻¹}
+use borrow.Author.Needs.{needs}
 use Rattle.patterns.specs.Format.{binary64}
 use Rattle.meaning.specs.Pairs.{Bare}
 use Rattle.meaning.specs.Statement.{HullOf}
@@ -9,26 +10,8 @@ use Rattle.absmax.proofs.Classes.{kept-positive, turned-negative}
 use Rattle.absmax.proofs.bare.abs_of.Statement.{statement}
 use Rattle.absmax.proofs.bare.abs_of.Tie as tie
 
-classify-requires : tie.Need-classify-requires
-classify-requires c κs = c .pre
-
 canonical-requires : tie.Need-canonical-requires
 canonical-requires c κs = c .before .before .pre
-
-enum-told : tie.Need-enum-told
-enum-told c = c .match .keys2
-
-opposite-requires : tie.Need-opposite-requires
-opposite-requires c κs = tt
-
-greater-requires : tie.Need-greater-requires
-greater-requires c κs = tt
-
-outward-requires : tie.Need-outward-requires
-outward-requires c κs = tt
-
-mirrored-requires : tie.Need-mirrored-requires
-mirrored-requires c κs = tt
 
 canonical-requires-2 : tie.Need-canonical-requires-2
 canonical-requires-2 c κs = subst⁻¹ (Bare binary64) (c .mirrored .ensures) (mirror-bare binary64 _ (c .before .before .before .pre))
@@ -54,6 +37,5 @@ returns-3 c =
 
 pub abs-of-spec : {M : Type 1} → statement M
 abs-of-spec =
-    tie.close
-    (tie.spec classify-requires canonical-requires enum-told opposite-requires greater-requires outward-requires mirrored-requires canonical-requires-2
-    returns returns-2 returns-3)
+    tie.close (tie.spec (λ c κs. c .pre) canonical-requires (search needs) (search needs) (search needs)
+    (search needs) (search needs) canonical-requires-2 returns returns-2 returns-3)

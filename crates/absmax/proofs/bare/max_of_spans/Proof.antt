@@ -1,16 +1,11 @@
 -- `bare::max_of_spans` meets its contract: the chosen ends are the true bounds.
 use mathlib.Core.Logic.{inl}
+use borrow.Author.Needs.{needs}
 use Rattle.patterns.specs.Format.{binary64}
 use Rattle.set_op.proofs.TrueEnds.{span-of, exact-proper, exact-answer}
 use Rattle.absmax.proofs.Extremes.{max-exact}
 use Rattle.absmax.proofs.bare.max_of_spans.Statement.{statement}
 use Rattle.absmax.proofs.bare.max_of_spans.Tie as tie
-
-greater-requires : tie.Need-greater-requires
-greater-requires c κs = tt
-
-greater-requires-2 : tie.Need-greater-requires-2
-greater-requires-2 c κs = tt
 
 canonical-requires : tie.Need-canonical-requires
 canonical-requires c κs =
@@ -25,4 +20,4 @@ returns c =
     (c .canonical .ensures)
 
 pub max-of-spans-spec : {M : Type 1} → statement M
-max-of-spans-spec = tie.close (tie.spec greater-requires greater-requires-2 canonical-requires returns)
+max-of-spans-spec = tie.close (tie.spec (search needs) (search needs) canonical-requires returns)

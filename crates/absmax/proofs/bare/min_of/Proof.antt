@@ -1,4 +1,5 @@
 -- `bare::min_of` meets its contract: there are no results on EMPTY.
+use borrow.Author.Needs.{needs}
 use Rattle.patterns.specs.Format.{binary64, infinity, signBit}
 use Rattle.meaning.specs.Pairs.{minusInfinity}
 use Rattle.meaning.specs.Points.{min}
@@ -6,9 +7,6 @@ use Rattle.flags.proofs.AnswerLaws.{said-yes, said-no}
 use Rattle.end_pairs.proofs.EmptyLaws.{neither-empty, empty-hull₂}
 use Rattle.absmax.proofs.bare.min_of.Statement.{statement}
 use Rattle.absmax.proofs.bare.min_of.Tie as tie
-
-either-empty-requires : tie.Need-either-empty-requires
-either-empty-requires c κs = tt
 
 returns : tie.Need-returns
 unfolding infinity signBit minusInfinity
@@ -21,4 +19,4 @@ returns-2 : tie.Need-returns-2
 returns-2 c = c .min-of-spans .ensures
 
 pub min-of-spec : {M : Type 1} → statement M
-min-of-spec = tie.close (tie.spec either-empty-requires returns min-of-spans-requires returns-2)
+min-of-spec = tie.close (tie.spec (search needs) returns min-of-spans-requires returns-2)

@@ -1,16 +1,11 @@
 -- `bare::min_of_spans` meets its contract: the chosen ends are the true bounds.
 use mathlib.Core.Logic.{inl}
+use borrow.Author.Needs.{needs}
 use Rattle.patterns.specs.Format.{binary64}
 use Rattle.set_op.proofs.TrueEnds.{span-of, exact-proper, exact-answer}
 use Rattle.absmax.proofs.Extremes.{min-exact}
 use Rattle.absmax.proofs.bare.min_of_spans.Statement.{statement}
 use Rattle.absmax.proofs.bare.min_of_spans.Tie as tie
-
-lesser-requires : tie.Need-lesser-requires
-lesser-requires c κs = tt
-
-lesser-requires-2 : tie.Need-lesser-requires-2
-lesser-requires-2 c κs = tt
 
 canonical-requires : tie.Need-canonical-requires
 canonical-requires c κs =
@@ -25,4 +20,4 @@ returns c =
     (c .canonical .ensures)
 
 pub min-of-spans-spec : {M : Type 1} → statement M
-min-of-spans-spec = tie.close (tie.spec lesser-requires lesser-requires-2 canonical-requires returns)
+min-of-spans-spec = tie.close (tie.spec (search needs) (search needs) canonical-requires returns)

@@ -4,14 +4,8 @@ use Rattle.kinds.proofs.AllowedLaws.{class-allows}
 use Rattle.arith_ends.proofs.divisor.divided_decoration.Statement.{statement}
 use Rattle.arith_ends.proofs.divisor.divided_decoration.Tie as tie
 
-classify-requires : tie.Need-classify-requires
-classify-requires c κs = search needs
-
-allowed-requires : tie.Need-allowed-requires
-allowed-requires c κs = search needs
-
 returns : tie.Need-returns
 returns c = rw (c .allowed .ensures) (class-allows (c .before .classify .ensures))
 
 pub divided-decoration-spec : {M : Type 1} → statement M
-divided-decoration-spec = tie.close (tie.spec classify-requires allowed-requires returns)
+divided-decoration-spec = tie.close (tie.spec (search needs) (search needs) returns)

@@ -9,9 +9,6 @@ use Rattle.arith_ends.proofs.EndLaws.{numbers, either-infinite}
 use Rattle.arith_ends.proofs.ends.product_end.Statement.{statement}
 use Rattle.arith_ends.proofs.ends.product_end.Tie as tie
 
-both-finite-requires : tie.Need-both-finite-requires
-both-finite-requires c κs = tt
-
 mul-ru-requires : tie.Need-mul-ru-requires
 mul-ru-requires c κs = said-yes (c .before .both-finite .ensures) (c .if1 .taken)
 
@@ -27,5 +24,4 @@ returns-2 c =
     (said-no (c .before .both-finite .ensures) (c .if1 .left))
 
 pub product-end-spec : {M : Type 1} → statement M
-product-end-spec =
-    tie.close (tie.spec both-finite-requires mul-ru-requires returns returns-2)
+product-end-spec = tie.close (tie.spec (search needs) mul-ru-requires returns returns-2)

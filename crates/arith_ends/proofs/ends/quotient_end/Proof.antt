@@ -8,9 +8,6 @@ use Rattle.arith_ends.proofs.EndLaws.{numbers, first-infinite, second-i
 use Rattle.arith_ends.proofs.ends.quotient_end.Statement.{statement}
 use Rattle.arith_ends.proofs.ends.quotient_end.Tie as tie
 
-both-finite-requires : tie.Need-both-finite-requires
-both-finite-requires c κs = tt
-
 div-ru-requires : tie.Need-div-ru-requires
 div-ru-requires c κs =
     let f = said-yes (c .before .both-finite .ensures) (c .if1 .taken) in
@@ -20,9 +17,6 @@ returns : tie.Need-returns
 returns c =
     let f = said-yes (c .before .before .both-finite .ensures) (c .before .if1 .taken) in
     numbers binary64 quotientEnd (λ y. refl) f (quotient-right binary64 (f .1) (c .before .before .before .pre) _ (c .div-ru .ensures))
-
-is-finite-requires : tie.Need-is-finite-requires
-is-finite-requires c κs = tt
 
 returns-2 : tie.Need-returns-2
 unfolding signBit
@@ -37,6 +31,4 @@ returns-3 c =
     first-infinite binary64 quotientEnd (λ y. refl) _ (search needs) (said-no (c .before .is-finite .ensures) (c .if2 .left))
 
 pub quotient-end-spec : {M : Type 1} → statement M
-quotient-end-spec =
-    tie.close
-    (tie.spec both-finite-requires div-ru-requires returns is-finite-requires returns-2 returns-3)
+quotient-end-spec = tie.close (tie.spec (search needs) div-ru-requires returns (search needs) returns-2 returns-3)

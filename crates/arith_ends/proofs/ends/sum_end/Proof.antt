@@ -9,9 +9,6 @@ use Rattle.arith_ends.proofs.EndLaws.{numbers, either-infinite}
 use Rattle.arith_ends.proofs.ends.sum_end.Statement.{statement}
 use Rattle.arith_ends.proofs.ends.sum_end.Tie as tie
 
-both-finite-requires : tie.Need-both-finite-requires
-both-finite-requires c κs = tt
-
 add-ru-requires : tie.Need-add-ru-requires
 add-ru-requires c κs = said-yes (c .before .both-finite .ensures) (c .if1 .taken)
 
@@ -27,5 +24,4 @@ returns-2 c =
     (said-no (c .before .both-finite .ensures) (c .if1 .left))
 
 pub sum-end-spec : {M : Type 1} → statement M
-sum-end-spec =
-    tie.close (tie.spec both-finite-requires add-ru-requires returns returns-2)
+sum-end-spec = tie.close (tie.spec (search needs) add-ru-requires returns returns-2)

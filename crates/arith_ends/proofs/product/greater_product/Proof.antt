@@ -1,18 +1,10 @@
 -- `product::greater_product` meets its contract: the greater of two rounded ends is the greater end rounded.
+use borrow.Author.Needs.{needs}
 use Rattle.patterns.specs.Format.{binary64}
 use Rattle.flags.proofs.AnswerLaws.{said-yes, said-no}
 use Rattle.arith_ends.proofs.GreaterLaws.{greater-first, greater-second}
 use Rattle.arith_ends.proofs.product.greater_product.Statement.{statement}
 use Rattle.arith_ends.proofs.product.greater_product.Tie as tie
-
-product-end-requires : tie.Need-product-end-requires
-product-end-requires c κs = tt
-
-product-end-requires-2 : tie.Need-product-end-requires-2
-product-end-requires-2 c κs = tt
-
-less-or-equal-requires : tie.Need-less-or-equal-requires
-less-or-equal-requires c κs = tt
 
 returns : tie.Need-returns
 returns c =
@@ -25,6 +17,4 @@ returns-2 c =
     (said-no (c .before .less-or-equal .ensures) (c .if1 .left))
 
 pub greater-product-spec : {M : Type 1} → statement M
-greater-product-spec =
-    tie.close
-    (tie.spec product-end-requires product-end-requires-2 less-or-equal-requires returns returns-2)
+greater-product-spec = tie.close (tie.spec (search needs) (search needs) (search needs) returns returns-2)

@@ -6,38 +6,17 @@ use Rattle.arith_ends.proofs.EndLaws.{zero-end}
 use Rattle.arith_ends.proofs.quotient.quotient_at.Statement.{statement}
 use Rattle.arith_ends.proofs.quotient.quotient_at.Tie as tie
 
-enum-told : tie.Need-enum-told
-enum-told c = search needs
-
 quotient-end-requires : tie.Need-quotient-end-requires
 quotient-end-requires c κs = rw (c .enum-told .given .1) at (c .before .before .pre)
-
-enum-told-2 : tie.Need-enum-told-2
-enum-told-2 c = search needs
 
 quotient-end-requires-2 : tie.Need-quotient-end-requires-2
 quotient-end-requires-2 c κs = rw (c .enum-told2 .given .1) at (c .before .before .pre)
 
-enum-told-3 : tie.Need-enum-told-3
-enum-told-3 c = search needs
-
 quotient-end-requires-3 : tie.Need-quotient-end-requires-3
 quotient-end-requires-3 c κs = rw (c .enum-told3 .given .1) at (c .before .before .pre)
 
-enum-told-4 : tie.Need-enum-told-4
-enum-told-4 c = search needs
-
 quotient-end-requires-4 : tie.Need-quotient-end-requires-4
 quotient-end-requires-4 c κs = rw (c .enum-told4 .given .1) at (c .before .before .pre)
-
-enum-told-5 : tie.Need-enum-told-5
-enum-told-5 c = search needs
-
-enum-told-6 : tie.Need-enum-told-6
-enum-told-6 c = search needs
-
-enum-told-7 : tie.Need-enum-told-7
-enum-told-7 c = search needs
 
 returns : tie.Need-returns
 returns c = rw (c .before .enum-told .given .1) (c .quotient-end .ensures)
@@ -63,23 +42,6 @@ returns-7 c = rw (c .enum-told7 .given .1) (exact-infinity binary64)
 
 pub quotient-at-spec : {M : Type 1} → statement M
 quotient-at-spec =
-    tie.close
-    (tie.spec
-    enum-told
-    quotient-end-requires
-    enum-told-2
-    quotient-end-requires-2
-    enum-told-3
-    quotient-end-requires-3
-    enum-told-4
-    quotient-end-requires-4
-    enum-told-5
-    enum-told-6
-    enum-told-7
-    returns
-    returns-2
-    returns-3
-    returns-4
-    returns-5
-    returns-6
-    returns-7)
+    tie.close (tie.spec (search needs) quotient-end-requires (search needs) quotient-end-requires-2 (search needs)
+    quotient-end-requires-3 (search needs) quotient-end-requires-4 (search needs) (search needs) (search needs)
+    returns returns-2 returns-3 returns-4 returns-5 returns-6 returns-7)

@@ -1,4 +1,5 @@
 -- `operation::one_operand` meets its contract: a sound operand is answered, and any other refused.
+use borrow.Author.Needs.{needs}
 use Rattle.patterns.specs.Format.{binary64}
 use Rattle.meaning.specs.Pairs.{setOf}
 use Rattle.meaning.specs.Results.{Result₁}
@@ -12,17 +13,8 @@ use Rattle.bare_request.proofs.SoundOperands.{one-sound, write₁}
 use Rattle.bare_request.proofs.operation.one_operand.Statement.{statement}
 use Rattle.bare_request.proofs.operation.one_operand.Tie as tie
 
-try-from-be-bytes-requires : tie.Need-try-from-be-bytes-requires
-try-from-be-bytes-requires c κs = tt
-
-enum-known-x : tie.Need-enum-known-x
-enum-known-x c = c .match .keys1
-
 image-requires : tie.Need-image-requires
 image-requires c κs = one-sound (found₁ outcome (c .before .before .before .try-from-be-bytes .ensures) (c .before .x .given .1))
-
-enum-known-n : tie.Need-enum-known-n
-enum-known-n c = c .match .keys2
 
 returns : tie.Need-returns
 unfolding outcomeOf
@@ -35,6 +27,4 @@ unfolding outcomeOf
 returns-2 c = λ second. refused₁ (found₁ outcome (c .before .before .before .try-from-be-bytes .ensures) (c .before .n .given .1))
 
 pub one-operand-spec : {M : Type 1} → statement M
-one-operand-spec =
-    tie.close
-    (tie.spec try-from-be-bytes-requires enum-known-x image-requires enum-known-n returns returns-2)
+one-operand-spec = tie.close (tie.spec (search needs) (search needs) image-requires (search needs) returns returns-2)

@@ -1,4 +1,5 @@
 -- `operation::overlap_state` meets its contract: sound operands have a state, and any others are refused.
+use borrow.Author.Needs.{needs}
 use Rattle.patterns.specs.Format.{binary64}
 use Rattle.meaning.specs.Pairs.{setOf}
 use Rattle.meaning.specs.Overlap.{OverlapNumber}
@@ -10,20 +11,8 @@ use Rattle.bare_request.proofs.SoundOperands.{two-sound, write₂}
 use Rattle.bare_request.proofs.operation.overlap_state.Statement.{statement}
 use Rattle.bare_request.proofs.operation.overlap_state.Tie as tie
 
-read-both-requires : tie.Need-read-both-requires
-read-both-requires c κs = tt
-
-enum-known-x : tie.Need-enum-known-x
-enum-known-x c = c .match .keys1
-
 overlap-of-requires : tie.Need-overlap-of-requires
 overlap-of-requires c κs = two-sound (found₂ bothOf (c .before .before .before .read-both .ensures) (c .before .x .given .1))
-
-state-number-requires : tie.Need-state-number-requires
-state-number-requires c κs = tt
-
-enum-known-n : tie.Need-enum-known-n
-enum-known-n c = c .match .keys2
 
 returns : tie.Need-returns
 unfolding outcomeOf
@@ -38,12 +27,5 @@ returns-2 c = refused₂ (found₂ bothOf (c .before .before .before .read-both 
 
 pub overlap-state-spec : {M : Type 1} → statement M
 overlap-state-spec =
-    tie.close
-    (tie.spec
-    read-both-requires
-    enum-known-x
-    overlap-of-requires
-    state-number-requires
-    enum-known-n
-    returns
+    tie.close (tie.spec (search needs) (search needs) overlap-of-requires (search needs) (search needs) returns
     returns-2)

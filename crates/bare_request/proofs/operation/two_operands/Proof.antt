@@ -1,4 +1,5 @@
 -- `operation::two_operands` meets its contract: sound operands are answered, and any others refused.
+use borrow.Author.Needs.{needs}
 use Rattle.patterns.specs.Format.{binary64}
 use Rattle.meaning.specs.Pairs.{setOf}
 use Rattle.meaning.specs.Results.{Result₂}
@@ -11,17 +12,8 @@ use Rattle.bare_request.proofs.SoundOperands.{two-sound, write₂}
 use Rattle.bare_request.proofs.operation.two_operands.Statement.{statement}
 use Rattle.bare_request.proofs.operation.two_operands.Tie as tie
 
-read-both-requires : tie.Need-read-both-requires
-read-both-requires c κs = tt
-
-enum-known-x : tie.Need-enum-known-x
-enum-known-x c = c .match .keys1
-
 combine-requires : tie.Need-combine-requires
 combine-requires c κs = two-sound (found₂ bothOf (c .before .before .before .read-both .ensures) (c .before .x .given .1))
-
-enum-known-n : tie.Need-enum-known-n
-enum-known-n c = c .match .keys2
 
 returns : tie.Need-returns
 unfolding outcomeOf
@@ -37,5 +29,4 @@ returns-2 c = refused₂ (found₂ bothOf (c .before .before .before .read-both 
 
 pub two-operands-spec : {M : Type 1} → statement M
 two-operands-spec =
-    tie.close
-    (tie.spec read-both-requires enum-known-x combine-requires enum-known-n returns returns-2)
+    tie.close (tie.spec (search needs) (search needs) combine-requires (search needs) returns returns-2)

@@ -58,16 +58,5 @@ returns c =
 
 pub keep-rest-spec : {M : Type 1} → statement M
 keep-rest-spec =
-    tie.close
-    (tie.spec
-    Inv-loop
-    μ-loop
-    loop-holds
-    add-buffer
-    slice-read-buffer
-    slice-write-buffer
-    add-i
-    loop-less
-    loop-again
-    same-length
-    returns)
+    tie.close (tie.spec Inv-loop μ-loop loop-holds add-buffer slice-read-buffer slice-write-buffer add-i loop-less
+    loop-again same-length returns)

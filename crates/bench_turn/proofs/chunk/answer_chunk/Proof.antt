@@ -93,25 +93,6 @@ returns c =
 
 pub answer-chunk-spec : {M : Type 1} → statement M
 answer-chunk-spec =
-    tie.close
-    (tie.spec
-    Inv-loop
-    μ-loop
-    loop-holds
-    mul-from
-    add-from-end
-    sub-reply
-    part-reply-start
-    part-reply-end
-    reply-requires
-    mul-to
-    slice-aggregate-copy
-    sub-copy
-    part-copy-start
-    part-copy-end
-    copy-requires
-    add-i
-    loop-less
-    loop-again
-    same-length
-    returns)
+    tie.close (tie.spec Inv-loop μ-loop loop-holds mul-from add-from-end sub-reply part-reply-start part-reply-end
+    reply-requires mul-to slice-aggregate-copy sub-copy part-copy-start part-copy-end copy-requires add-i loop-less
+    loop-again same-length returns)

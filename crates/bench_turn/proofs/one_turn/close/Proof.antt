@@ -11,39 +11,6 @@ use Rattle.bench_turn.proofs.TurnLaws.{closed-silently}
 use Rattle.bench_turn.proofs.one_turn.close.Statement.{statement}
 use Rattle.bench_turn.proofs.one_turn.close.Tie as tie
 
-closing-requires : tie.Need-closing-requires
-closing-requires c κs = search needs
-
-enum-told : tie.Need-enum-told
-enum-told c = search needs
-
-enum-told-2 : tie.Need-enum-told-2
-enum-told-2 c = search needs
-
-enum-known-number : tie.Need-enum-known-number
-enum-known-number c = search needs
-
-last-reply-requires : tie.Need-last-reply-requires
-last-reply-requires c κs = search needs
-
-slice-aggregate-copy : tie.Need-slice-aggregate-copy
-slice-aggregate-copy c = search needs
-
-sub-copy : tie.Need-sub-copy
-sub-copy c = search needs
-
-part-copy-start : tie.Need-part-copy-start
-part-copy-start c = search needs
-
-part-copy-end : tie.Need-part-copy-end
-part-copy-end c = search needs
-
-copy-requires : tie.Need-copy-requires
-copy-requires c κs = search needs
-
-add-t11 : tie.Need-add-t11
-add-t11 c = search needs
-
 returns : tie.Need-returns
 returns c =
     let closing = c .before .before .closing in
@@ -53,9 +20,6 @@ returns-2 : tie.Need-returns-2
 returns-2 c =
     let closing = c .before .before .closing in
     closed-silently (subst (Closes _ _ _) (c .enum-told2 .given .1) (closing .ensures)) refl
-
-same-length : tie.Need-same-length
-same-length c = search needs
 
 returns-3 : tie.Need-returns-3
 returns-3 c =
@@ -77,20 +41,6 @@ returns-3 c =
 
 pub close-spec : {M : Type 1} → statement M
 close-spec =
-    tie.close
-    (tie.spec
-    closing-requires
-    enum-told
-    enum-told-2
-    enum-known-number
-    last-reply-requires
-    slice-aggregate-copy
-    sub-copy
-    part-copy-start
-    part-copy-end
-    copy-requires
-    add-t11
-    returns
-    returns-2
-    same-length
+    tie.close (tie.spec (search needs) (search needs) (search needs) (search needs) (search needs) (search needs)
+    (search needs) (search needs) (search needs) (search needs) (search needs) returns returns-2 (search needs)
     returns-3)

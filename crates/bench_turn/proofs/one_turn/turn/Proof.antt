@@ -9,15 +9,6 @@ use Rattle.bench_turn.proofs.TurnLaws.{turn-on}
 use Rattle.bench_turn.proofs.one_turn.turn.Statement.{statement}
 use Rattle.bench_turn.proofs.one_turn.turn.Tie as tie
 
-add-filled : tie.Need-add-filled
-add-filled c = search needs
-
-complete-requires : tie.Need-complete-requires
-complete-requires c κs = search needs
-
-slice-reshare-prefix-answer-chunk : tie.Need-slice-reshare-prefix-answer-chunk
-slice-reshare-prefix-answer-chunk c = search needs
-
 slice-aggregate-answer-chunk : tie.Need-slice-aggregate-answer-chunk
 slice-aggregate-answer-chunk c = sym (length-take-le _ _ (omega arith))
 
@@ -31,30 +22,6 @@ answer-chunk-requires c κs =
       room = omega (arith, counted);
     }
 
-mul-taken : tie.Need-mul-taken
-mul-taken c = search needs
-
-sub-rest : tie.Need-sub-rest
-sub-rest c = search needs
-
-keep-rest-requires : tie.Need-keep-rest-requires
-keep-rest-requires c κs = search needs
-
-add-close : tie.Need-add-close
-add-close c = search needs
-
-mul-close : tie.Need-mul-close
-mul-close c = search needs
-
-close-requires : tie.Need-close-requires
-close-requires c κs = search needs
-
-same-length : tie.Need-same-length
-same-length c = search needs
-
-same-length-2 : tie.Need-same-length-2
-same-length-2 c = search needs
-
 returns : tie.Need-returns
 returns c =
     let closed = c .before .before .close in
@@ -67,19 +34,6 @@ returns c =
 
 pub turn-spec : {M : Type 1} → statement M
 turn-spec =
-    tie.close
-    (tie.spec
-    add-filled
-    complete-requires
-    slice-reshare-prefix-answer-chunk
-    slice-aggregate-answer-chunk
-    answer-chunk-requires
-    mul-taken
-    sub-rest
-    keep-rest-requires
-    add-close
-    mul-close
-    close-requires
-    same-length
-    same-length-2
-    returns)
+    tie.close (tie.spec (search needs) (search needs) (search needs) slice-aggregate-answer-chunk
+    answer-chunk-requires (search needs) (search needs) (search needs) (search needs) (search needs) (search needs)
+    (search needs) (search needs) returns)

@@ -4,16 +4,10 @@ use Rattle.calls.proofs.PlaceLaws.{whole}
 use Rattle.calls.proofs.lent.write_bare.Statement.{statement}
 use Rattle.calls.proofs.lent.write_bare.Tie as tie
 
-write-ends-requires : tie.Need-write-ends-requires
-write-ends-requires c κs = search needs
-
-same-length : tie.Need-same-length
-same-length c = search needs
-
 returns : tie.Need-returns
 returns c =
     let given = c .before .before .before .before .before in
     whole 16 (given .args .output .now) (c .before .before .write-ends .ensures) (given .pre)
 
 pub write-bare-spec : {M : Type 1} → statement M
-write-bare-spec = tie.close (tie.spec write-ends-requires same-length returns)
+write-bare-spec = tie.close (tie.spec (search needs) (search needs) returns)

@@ -11,18 +11,6 @@ use Rattle.calls.proofs.PlaceLaws.{last-byte}
 use Rattle.calls.proofs.lent.write_decorated.Statement.{statement}
 use Rattle.calls.proofs.lent.write_decorated.Tie as tie
 
-write-ends-requires : tie.Need-write-ends-requires
-write-ends-requires c κs = search needs
-
-decoration-byte-requires : tie.Need-decoration-byte-requires
-decoration-byte-requires c κs = search needs
-
-slice-write-output : tie.Need-slice-write-output
-slice-write-output c = search needs
-
-same-length : tie.Need-same-length
-same-length c = search needs
-
 returns : tie.Need-returns
 returns c =
     let given = c .before .before .before .before .before .before .before in
@@ -33,6 +21,4 @@ returns c =
     ∙ ap (λ (b : ℕ). writePair o (x .pair) ++ (b ∷ [])) (c .decoration-byte .ensures)
 
 pub write-decorated-spec : {M : Type 1} → statement M
-write-decorated-spec =
-    tie.close
-    (tie.spec write-ends-requires decoration-byte-requires slice-write-output same-length returns)
+write-decorated-spec = tie.close (tie.spec (search needs) (search needs) (search needs) (search needs) returns)

@@ -6,20 +6,11 @@ use Rattle.calls.proofs.PlaceLaws.{zeros-long, state-written}
 use Rattle.calls.proofs.lent.write_state.Statement.{statement}
 use Rattle.calls.proofs.lent.write_state.Tie as tie
 
-array-share-prefix-zeros : tie.Need-array-share-prefix-zeros
-array-share-prefix-zeros c = search needs
-
 slice-aggregate-copy : tie.Need-slice-aggregate-copy
 slice-aggregate-copy c = sym (zeros-long _ 17 (c .before .before .pre .1))
 
 copy-requires : tie.Need-copy-requires
 copy-requires c κs = le-of-eq (zeros-long _ 17 (c .before .before .before .pre .1))
-
-slice-write-output : tie.Need-slice-write-output
-slice-write-output c = search needs
-
-same-length : tie.Need-same-length
-same-length c = search needs
 
 returns : tie.Need-returns
 returns c =
@@ -28,5 +19,4 @@ returns c =
 
 pub write-state-spec : {M : Type 1} → statement M
 write-state-spec =
-    tie.close
-    (tie.spec array-share-prefix-zeros slice-aggregate-copy copy-requires slice-write-output same-length returns)
+    tie.close (tie.spec (search needs) slice-aggregate-copy copy-requires (search needs) (search needs) returns)

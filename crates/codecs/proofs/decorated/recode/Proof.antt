@@ -21,24 +21,6 @@ returns c = called-by (refused 1 0) (failed (c .if1 .taken))
 returns-2 : tie.Need-returns-2
 returns-2 c = called-by (refused 2 0) (passed (c .before .if1 .left) (failed (c .if2 .taken)))
 
-decorated-at-requires : tie.Need-decorated-at-requires
-decorated-at-requires c κs = search needs
-
-read-requires : tie.Need-read-requires
-read-requires c κs = tt
-
-enum-known-x : tie.Need-enum-known-x
-enum-known-x c = c .match .keys1
-
-write-decorated-requires : tie.Need-write-decorated-requires
-write-decorated-requires c κs = search needs
-
-enum-known-number : tie.Need-enum-known-number
-enum-known-number c = c .match .keys2
-
-same-length : tie.Need-same-length
-same-length c = search needs
-
 returns-3 : tie.Need-returns-3
 returns-3 c =
     let told = c .before .before .before .before .before in
@@ -62,15 +44,5 @@ returns-4 c =
 
 pub recode-spec : {M : Type 1} → statement M
 recode-spec =
-    tie.close
-    (tie.spec
-    returns
-    returns-2
-    decorated-at-requires
-    read-requires
-    enum-known-x
-    write-decorated-requires
-    enum-known-number
-    same-length
-    returns-3
-    returns-4)
+    tie.close (tie.spec returns returns-2 (search needs) (search needs) (search needs) (search needs) (search needs)
+    (search needs) returns-3 returns-4)

@@ -1,5 +1,6 @@
 -- `made::canonical_dec` meets its contract: NaI is answered by its constant, any other by its tidied ends.
 use mathlib.Core.Path.{refl, subst⁻¹}
+use borrow.Author.Needs.{needs}
 use Rattle.patterns.specs.Format.{binary64, infinity, quietNaN}
 use Rattle.meaning.specs.Bytes.{Tidied}
 use Rattle.dec_interval.specs.Values.{tidiedNaI, tidiedInterval}
@@ -7,9 +8,6 @@ use Rattle.flags.proofs.AnswerLaws.{said-yes, said-no}
 use Rattle.end_pairs.proofs.KindLaws.{only-bare}
 use Rattle.dec_interval.proofs.made.canonical_dec.Statement.{statement}
 use Rattle.dec_interval.proofs.made.canonical_dec.Tie as tie
-
-are-nans-requires : tie.Need-are-nans-requires
-are-nans-requires c κs = tt
 
 returns : tie.Need-returns
 unfolding infinity quietNaN
@@ -27,5 +25,4 @@ returns-2 c =
     (subst⁻¹ (Tidied binary64 _) (c .from-ends .ensures) (c .before .canonical .ensures)) refl
 
 pub canonical-dec-spec : {M : Type 1} → statement M
-canonical-dec-spec =
-    tie.close (tie.spec are-nans-requires returns canonical-requires from-ends-requires returns-2)
+canonical-dec-spec = tie.close (tie.spec (search needs) returns canonical-requires from-ends-requires returns-2)

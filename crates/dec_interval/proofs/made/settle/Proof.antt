@@ -9,21 +9,12 @@ use Rattle.decorations.proofs.DecorationLaws.{ill-byte}
 use Rattle.dec_interval.proofs.made.settle.Statement.{statement}
 use Rattle.dec_interval.proofs.made.settle.Tie as tie
 
-decoration-byte-requires : tie.Need-decoration-byte-requires
-decoration-byte-requires c κs = tt
-
 returns : tie.Need-returns
 unfolding infinity quietNaN
 returns c = setNaI (ill-byte _ (sym (c .before .decoration-byte .ensures) ∙ c .if1 .taken))
 
-canonical-requires : tie.Need-canonical-requires
-canonical-requires c κs = search needs
-
 from-ends-requires : tie.Need-from-ends-requires
 from-ends-requires c κs = c .canonical .ensures .canonical .bare
-
-settled-requires : tie.Need-settled-requires
-settled-requires c κs = search needs
 
 returns-2 : tie.Need-returns-2
 returns-2 c =
@@ -32,12 +23,4 @@ returns-2 c =
     (subst⁻¹ (Tidied binary64 _) (c .before .from-ends .ensures) (c .before .before .canonical .ensures)) (c .settled .ensures)
 
 pub settle-spec : {M : Type 1} → statement M
-settle-spec =
-    tie.close
-    (tie.spec
-    decoration-byte-requires
-    returns
-    canonical-requires
-    from-ends-requires
-    settled-requires
-    returns-2)
+settle-spec = tie.close (tie.spec (search needs) returns (search needs) from-ends-requires (search needs) returns-2)

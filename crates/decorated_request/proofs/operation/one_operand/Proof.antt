@@ -1,4 +1,5 @@
 -- `operation::one_operand` meets its contract: a sound operand is answered, and any other refused.
+use borrow.Author.Needs.{needs}
 use Rattle.meaning.specs.Bytes.{bigEndian, writeDecorated}
 use Rattle.dec_interval.specs.Conversions.{decOutcome}
 use Rattle.request_laws.proofs.ReadLaws.{found₁, after₁, refused₁}
@@ -7,17 +8,8 @@ use Rattle.decorated_request.proofs.SoundOperands.{one-sound, write₁}
 use Rattle.decorated_request.proofs.operation.one_operand.Statement.{statement}
 use Rattle.decorated_request.proofs.operation.one_operand.Tie as tie
 
-try-from-be-bytes-requires : tie.Need-try-from-be-bytes-requires
-try-from-be-bytes-requires c κs = tt
-
-enum-known-x : tie.Need-enum-known-x
-enum-known-x c = c .match .keys1
-
 image-dec-requires : tie.Need-image-dec-requires
 image-dec-requires c κs = one-sound (found₁ decOutcome (c .before .before .before .try-from-be-bytes .ensures) (c .before .x .given .1))
-
-enum-known-n : tie.Need-enum-known-n
-enum-known-n c = c .match .keys2
 
 returns : tie.Need-returns
 unfolding outcomeOf
@@ -31,5 +23,4 @@ returns-2 c = λ second. refused₁ (found₁ decOutcome (c .before .before .bef
 
 pub one-operand-spec : {M : Type 1} → statement M
 one-operand-spec =
-    tie.close
-    (tie.spec try-from-be-bytes-requires enum-known-x image-dec-requires enum-known-n returns returns-2)
+    tie.close (tie.spec (search needs) (search needs) image-dec-requires (search needs) returns returns-2)

@@ -1,5 +1,6 @@
 -- `operation::overlap_state` meets its contract: sound operands have a state, and any others are refused.
 use mathlib.Core.Path.{subst⁻¹}
+use borrow.Author.Needs.{needs}
 use Rattle.patterns.specs.Format.{binary64}
 use Rattle.meaning.specs.Overlap.{DecoratedOverlap}
 use Rattle.meaning.specs.Requests.{writeState, decoratedSize}
@@ -9,20 +10,8 @@ use Rattle.decorated_request.proofs.SoundOperands.{two-sound, write₂}
 use Rattle.decorated_request.proofs.operation.overlap_state.Statement.{statement}
 use Rattle.decorated_request.proofs.operation.overlap_state.Tie as tie
 
-read-both-requires : tie.Need-read-both-requires
-read-both-requires c κs = tt
-
-enum-known-x : tie.Need-enum-known-x
-enum-known-x c = c .match .keys1
-
 overlap-of-dec-requires : tie.Need-overlap-of-dec-requires
 overlap-of-dec-requires c κs = two-sound (found₂ bothOf (c .before .before .before .read-both .ensures) (c .before .x .given .1))
-
-dec-state-number-requires : tie.Need-dec-state-number-requires
-dec-state-number-requires c κs = tt
-
-enum-known-n : tie.Need-enum-known-n
-enum-known-n c = c .match .keys2
 
 returns : tie.Need-returns
 unfolding outcomeOf
@@ -37,12 +26,5 @@ returns-2 c = refused₂ (found₂ bothOf (c .before .before .before .read-both 
 
 pub overlap-state-spec : {M : Type 1} → statement M
 overlap-state-spec =
-    tie.close
-    (tie.spec
-    read-both-requires
-    enum-known-x
-    overlap-of-dec-requires
-    dec-state-number-requires
-    enum-known-n
-    returns
+    tie.close (tie.spec (search needs) (search needs) overlap-of-dec-requires (search needs) (search needs) returns
     returns-2)

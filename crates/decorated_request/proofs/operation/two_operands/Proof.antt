@@ -1,4 +1,5 @@
 -- `operation::two_operands` meets its contract: sound operands are answered, and any others refused.
+use borrow.Author.Needs.{needs}
 use Rattle.meaning.specs.Bytes.{bigEndian, writeDecorated}
 use Rattle.request_laws.proofs.ReadLaws.{found₂, after₂, refused₂}
 use Rattle.decorated_request.specs.Conversions.{outcomeOf, bothOf}
@@ -6,17 +7,8 @@ use Rattle.decorated_request.proofs.SoundOperands.{two-sound, write₂}
 use Rattle.decorated_request.proofs.operation.two_operands.Statement.{statement}
 use Rattle.decorated_request.proofs.operation.two_operands.Tie as tie
 
-read-both-requires : tie.Need-read-both-requires
-read-both-requires c κs = tt
-
-enum-known-x : tie.Need-enum-known-x
-enum-known-x c = c .match .keys1
-
 combine-dec-requires : tie.Need-combine-dec-requires
 combine-dec-requires c κs = two-sound (found₂ bothOf (c .before .before .before .read-both .ensures) (c .before .x .given .1))
-
-enum-known-n : tie.Need-enum-known-n
-enum-known-n c = c .match .keys2
 
 returns : tie.Need-returns
 unfolding outcomeOf
@@ -30,5 +22,4 @@ returns-2 c = refused₂ (found₂ bothOf (c .before .before .before .read-both 
 
 pub two-operands-spec : {M : Type 1} → statement M
 two-operands-spec =
-    tie.close
-    (tie.spec read-both-requires enum-known-x combine-dec-requires enum-known-n returns returns-2)
+    tie.close (tie.spec (search needs) (search needs) combine-dec-requires (search needs) returns returns-2)

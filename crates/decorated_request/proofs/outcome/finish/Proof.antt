@@ -10,33 +10,12 @@ use Rattle.request_laws.proofs.RequestedLaws.{left-given}
 use Rattle.decorated_request.proofs.outcome.finish.Statement.{statement}
 use Rattle.decorated_request.proofs.outcome.finish.Tie as tie
 
-enum-known-outcome : tie.Need-enum-known-outcome
-enum-known-outcome c = c .match .keys1
-
-write-decorated-requires : tie.Need-write-decorated-requires
-write-decorated-requires c κs = search needs
-
-enum-known-outcome-2 : tie.Need-enum-known-outcome-2
-enum-known-outcome-2 c = c .match .keys2
-
-write-state-requires : tie.Need-write-state-requires
-write-state-requires c κs = search needs
-
-enum-known-outcome-3 : tie.Need-enum-known-outcome-3
-enum-known-outcome-3 c = c .match .keys3
-
-same-length : tie.Need-same-length
-same-length c = search needs
-
 returns : tie.Need-returns
 unfolding outcomeOf
 returns c =
     let told = c .before .before .before .before .before in
     left-given (told .before .before .before .args .output .now) (ap outcomeOf (told .outcome .given .1))
     (c .before .before .write-decorated .ensures)
-
-same-length-2 : tie.Need-same-length-2
-same-length-2 c = search needs
 
 returns-2 : tie.Need-returns-2
 unfolding outcomeOf
@@ -51,15 +30,5 @@ returns-3 c = ap (λ (o : Outcome). leftBy (c .before .before .before .before .a
 
 pub finish-spec : {M : Type 1} → statement M
 finish-spec =
-    tie.close
-    (tie.spec
-    enum-known-outcome
-    write-decorated-requires
-    enum-known-outcome-2
-    write-state-requires
-    enum-known-outcome-3
-    same-length
-    returns
-    same-length-2
-    returns-2
-    returns-3)
+    tie.close (tie.spec (search needs) (search needs) (search needs) (search needs) (search needs) (search needs)
+    returns (search needs) returns-2 returns-3)

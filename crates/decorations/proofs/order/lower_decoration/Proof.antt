@@ -1,16 +1,11 @@
 -- `order::lower_decoration` meets its contract: the bytes rise as the decorations do.
 use mathlib.Core.Path.{sym}
 use native.Mathlib.Omega.{arith}
+use borrow.Author.Needs.{needs}
 use Rattle.decorations.specs.Conversions.{decorationOf}
 use Rattle.decorations.proofs.DecorationLaws.{lower-first, lower-second}
 use Rattle.decorations.proofs.order.lower_decoration.Statement.{statement}
 use Rattle.decorations.proofs.order.lower_decoration.Tie as tie
-
-decoration-byte-requires : tie.Need-decoration-byte-requires
-decoration-byte-requires c κs = tt
-
-decoration-byte-requires-2 : tie.Need-decoration-byte-requires-2
-decoration-byte-requires-2 c κs = tt
 
 returns : tie.Need-returns
 returns c =
@@ -27,5 +22,4 @@ returns-2 c =
     (omega (arith, c .before .before .decoration-byte .ensures, c .before .decoration-byte2 .ensures, c .if1 .left)))
 
 pub lower-decoration-spec : {M : Type 1} → statement M
-lower-decoration-spec =
-    tie.close (tie.spec decoration-byte-requires decoration-byte-requires-2 returns returns-2)
+lower-decoration-spec = tie.close (tie.spec (search needs) (search needs) returns returns-2)

@@ -1,5 +1,6 @@
 -- `settling::highest` meets its contract: each test picks its case.
 use mathlib.Core.Path.{sym}
+use borrow.Author.Needs.{needs}
 use Rattle.patterns.specs.Format.{binary64}
 use Rattle.flags.proofs.AnswerLaws.{said-yes, said-no}
 use Rattle.end_pairs.proofs.Shapes.{answers-nothing, answers-common}
@@ -7,15 +8,9 @@ use Rattle.decorations.proofs.DecorationLaws.{highest-empty, highest-bo
 use Rattle.decorations.proofs.settling.highest.Statement.{statement}
 use Rattle.decorations.proofs.settling.highest.Tie as tie
 
-is-empty-pair-requires : tie.Need-is-empty-pair-requires
-is-empty-pair-requires c κs = tt
-
 returns : tie.Need-returns
 returns c =
     sym (highest-empty (said-yes (answers-nothing binary64 _ (c .before .before .pre) (c .before .is-empty-pair .ensures)) (c .if1 .taken)))
-
-is-bounded-requires : tie.Need-is-bounded-requires
-is-bounded-requires c κs = tt
 
 returns-2 : tie.Need-returns-2
 returns-2 c =
@@ -30,5 +25,4 @@ returns-3 c =
     (said-no (answers-common binary64 _ valid (c .before .is-bounded .ensures)) (c .if2 .left)))
 
 pub highest-spec : {M : Type 1} → statement M
-highest-spec =
-    tie.close (tie.spec is-empty-pair-requires returns is-bounded-requires returns-2 returns-3)
+highest-spec = tie.close (tie.spec (search needs) returns (search needs) returns-2 returns-3)

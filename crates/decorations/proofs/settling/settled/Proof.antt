@@ -10,12 +10,6 @@ use Rattle.decorations.proofs.DecorationLaws.{settled-lower}
 use Rattle.decorations.proofs.settling.settled.Statement.{statement}
 use Rattle.decorations.proofs.settling.settled.Tie as tie
 
-highest-requires : tie.Need-highest-requires
-highest-requires c κs = search needs
-
-lower-decoration-requires : tie.Need-lower-decoration-requires
-lower-decoration-requires c κs = tt
-
 returns : tie.Need-returns
 returns c =
     let a = c .before .before .args in
@@ -23,4 +17,4 @@ returns c =
     ∙ settled-lower (setOf binary64 (pairOf (a .x))) (decorationOf (a .d))
 
 pub settled-spec : {M : Type 1} → statement M
-settled-spec = tie.close (tie.spec highest-requires lower-decoration-requires returns)
+settled-spec = tie.close (tie.spec (search needs) (search needs) returns)

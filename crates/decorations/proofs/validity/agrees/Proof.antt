@@ -1,41 +1,12 @@
 -- `validity::agrees` meets its contract: each arm tests what its decoration asks.
 use mathlib.Core.Path.{ap}
+use borrow.Author.Needs.{needs}
 use Rattle.patterns.specs.Format.{binary64}
 use Rattle.meaning.specs.Decorations.{Ill, Trv, Def, Dac, Com}
 use Rattle.decorations.specs.Conversions.{decorationOf}
 use Rattle.decorations.proofs.AgreeLaws.{answers-agree}
 use Rattle.decorations.proofs.validity.agrees.Statement.{statement}
 use Rattle.decorations.proofs.validity.agrees.Tie as tie
-
-enum-told : tie.Need-enum-told
-enum-told c = c .match .keys1
-
-are-nans-requires : tie.Need-are-nans-requires
-are-nans-requires c κs = tt
-
-enum-told-2 : tie.Need-enum-told-2
-enum-told-2 c = c .match .keys2
-
-is-bare-requires : tie.Need-is-bare-requires
-is-bare-requires c κs = tt
-
-enum-told-3 : tie.Need-enum-told-3
-enum-told-3 c = c .match .keys3
-
-is-proper-requires : tie.Need-is-proper-requires
-is-proper-requires c κs = tt
-
-enum-told-4 : tie.Need-enum-told-4
-enum-told-4 c = c .match .keys4
-
-is-proper-requires-2 : tie.Need-is-proper-requires-2
-is-proper-requires-2 c κs = tt
-
-enum-told-5 : tie.Need-enum-told-5
-enum-told-5 c = c .match .keys5
-
-is-bounded-requires : tie.Need-is-bounded-requires
-is-bounded-requires c κs = tt
 
 returns : tie.Need-returns
 returns c =
@@ -64,20 +35,5 @@ returns-5 c =
 
 pub agrees-spec : {M : Type 1} → statement M
 agrees-spec =
-    tie.close
-    (tie.spec
-    enum-told
-    are-nans-requires
-    enum-told-2
-    is-bare-requires
-    enum-told-3
-    is-proper-requires
-    enum-told-4
-    is-proper-requires-2
-    enum-told-5
-    is-bounded-requires
-    returns
-    returns-2
-    returns-3
-    returns-4
-    returns-5)
+    tie.close (tie.spec (search needs) (search needs) (search needs) (search needs) (search needs) (search needs)
+    (search needs) (search needs) (search needs) (search needs) returns returns-2 returns-3 returns-4 returns-5)

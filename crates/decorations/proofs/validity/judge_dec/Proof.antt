@@ -1,12 +1,10 @@
 -- `validity::judge_dec` meets its contract: the ends are judged before the decoration.
 use borrow.Author.Tests.{not-true, not-false}
+use borrow.Author.Needs.{needs}
 use Rattle.meaning.specs.Statement.{decoratedFive, decoratedSix, decoratedGood}
 use Rattle.flags.proofs.AnswerLaws.{said-yes, said-no}
 use Rattle.decorations.proofs.validity.judge_dec.Statement.{statement}
 use Rattle.decorations.proofs.validity.judge_dec.Tie as tie
-
-has-ends-requires : tie.Need-has-ends-requires
-has-ends-requires c κs = tt
 
 returns : tie.Need-returns
 returns c = decoratedFive (said-no (c .before .has-ends .ensures) (not-true _ (c .if1 .taken)))
@@ -25,4 +23,4 @@ returns-3 c =
     (said-yes (c .before .agrees .ensures) (not-false _ (c .if2 .left)))
 
 pub judge-dec-spec : {M : Type 1} → statement M
-judge-dec-spec = tie.close (tie.spec has-ends-requires returns agrees-requires returns-2 returns-3)
+judge-dec-spec = tie.close (tie.spec (search needs) returns agrees-requires returns-2 returns-3)

@@ -5,24 +5,6 @@ use Rattle.end_bytes.proofs.PlaceLaws.{copied-eight}
 use Rattle.end_bytes.proofs.ends.eight_at.Statement.{statement}
 use Rattle.end_bytes.proofs.ends.eight_at.Tie as tie
 
-add-end : tie.Need-add-end
-add-end c = search needs
-
-sub-copy : tie.Need-sub-copy
-sub-copy c = search needs
-
-part-copy-start : tie.Need-part-copy-start
-part-copy-start c = search needs
-
-part-copy-end : tie.Need-part-copy-end
-part-copy-end c = search needs
-
-slice-aggregate-copy : tie.Need-slice-aggregate-copy
-slice-aggregate-copy c = search needs
-
-copy-requires : tie.Need-copy-requires
-copy-requires c κs = search needs
-
 returns : tie.Need-returns
 returns c =
     let a = c .before .before .before .before .before .args in
@@ -30,12 +12,5 @@ returns c =
 
 pub eight-at-spec : {M : Type 1} → statement M
 eight-at-spec =
-    tie.close
-    (tie.spec
-    add-end
-    sub-copy
-    part-copy-start
-    part-copy-end
-    slice-aggregate-copy
-    copy-requires
+    tie.close (tie.spec (search needs) (search needs) (search needs) (search needs) (search needs) (search needs)
     returns)

@@ -6,24 +6,6 @@ use Rattle.end_bytes.specs.Conversions.{orderOf}
 use Rattle.end_bytes.proofs.ends.read_ends.Statement.{statement}
 use Rattle.end_bytes.proofs.ends.read_ends.Tie as tie
 
-eight-at-requires : tie.Need-eight-at-requires
-eight-at-requires c κs = search needs
-
-in-order-requires : tie.Need-in-order-requires
-in-order-requires c κs = tt
-
-from-digits-requires : tie.Need-from-digits-requires
-from-digits-requires c κs = tt
-
-eight-at-requires-2 : tie.Need-eight-at-requires-2
-eight-at-requires-2 c κs = search needs
-
-in-order-requires-2 : tie.Need-in-order-requires-2
-in-order-requires-2 c κs = tt
-
-from-digits-requires-2 : tie.Need-from-digits-requires-2
-from-digits-requires-2 c κs = tt
-
 returns : tie.Need-returns
 returns c =
     let o = orderOf (c .before .before .before .before .before .before .before .args .order) in
@@ -37,12 +19,5 @@ returns c =
 
 pub read-ends-spec : {M : Type 1} → statement M
 read-ends-spec =
-    tie.close
-    (tie.spec
-    eight-at-requires
-    in-order-requires
-    from-digits-requires
-    eight-at-requires-2
-    in-order-requires-2
-    from-digits-requires-2
+    tie.close (tie.spec (search needs) (search needs) (search needs) (search needs) (search needs) (search needs)
     returns)

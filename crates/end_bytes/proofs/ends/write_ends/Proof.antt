@@ -10,27 +10,6 @@ use Rattle.end_bytes.proofs.PlaceLaws.{placed-both}
 use Rattle.end_bytes.proofs.ends.write_ends.Statement.{statement}
 use Rattle.end_bytes.proofs.ends.write_ends.Tie as tie
 
-to-digits-requires : tie.Need-to-digits-requires
-to-digits-requires c κs = tt
-
-in-order-requires : tie.Need-in-order-requires
-in-order-requires c κs = tt
-
-put-eight-requires : tie.Need-put-eight-requires
-put-eight-requires c κs = search needs
-
-to-digits-requires-2 : tie.Need-to-digits-requires-2
-to-digits-requires-2 c κs = tt
-
-in-order-requires-2 : tie.Need-in-order-requires-2
-in-order-requires-2 c κs = tt
-
-put-eight-requires-2 : tie.Need-put-eight-requires-2
-put-eight-requires-2 c κs = search needs
-
-same-length : tie.Need-same-length
-same-length c = search needs
-
 returns : tie.Need-returns
 returns c =
     let second = c .before .before in
@@ -46,13 +25,5 @@ returns c =
 
 pub write-ends-spec : {M : Type 1} → statement M
 write-ends-spec =
-    tie.close
-    (tie.spec
-    to-digits-requires
-    in-order-requires
-    put-eight-requires
-    to-digits-requires-2
-    in-order-requires-2
-    put-eight-requires-2
-    same-length
-    returns)
+    tie.close (tie.spec (search needs) (search needs) (search needs) (search needs) (search needs) (search needs)
+    (search needs) returns)

@@ -5,9 +5,6 @@ use Rattle.end_pairs.proofs.MirrorLaws.{sign-added, sign-taken}
 use Rattle.end_pairs.proofs.mirror.opposite.Statement.{statement}
 use Rattle.end_pairs.proofs.mirror.opposite.Tie as tie
 
-add-result : tie.Need-add-result
-add-result c = search needs
-
 returns : tie.Need-returns
 unfolding signBit
 returns c = sign-added binary64 (c .if1 .taken)
@@ -17,4 +14,4 @@ unfolding signBit
 returns-2 c = sign-taken binary64 (search needs) (c .if1 .left)
 
 pub opposite-spec : {M : Type 1} → statement M
-opposite-spec = tie.close (tie.spec add-result returns returns-2)
+opposite-spec = tie.close (tie.spec (search needs) returns returns-2)

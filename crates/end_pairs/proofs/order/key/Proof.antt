@@ -7,19 +7,13 @@ use Rattle.end_pairs.proofs.KeyLaws.{key-below, key-above}
 use Rattle.end_pairs.proofs.order.key.Statement.{statement}
 use Rattle.end_pairs.proofs.order.key.Tie as tie
 
-add-result : tie.Need-add-result
-add-result c = search needs
-
 returns : tie.Need-returns
 unfolding signBit
 returns c = sym (key-below binary64 (c .if1 .taken))
-
-sub-result : tie.Need-sub-result
-sub-result c = search needs
 
 returns-2 : tie.Need-returns-2
 unfolding signBit
 returns-2 c = omega (arith, key-above binary64 (c .if1 .left))
 
 pub key-spec : {M : Type 1} → statement M
-key-spec = tie.close (tie.spec add-result returns sub-result returns-2)
+key-spec = tie.close (tie.spec (search needs) returns (search needs) returns-2)

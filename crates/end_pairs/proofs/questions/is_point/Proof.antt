@@ -1,15 +1,10 @@
 -- `questions::is_point` meets its contract: of two finite ends in order, the upper is not above the lower.
+use borrow.Author.Needs.{needs}
 use Rattle.patterns.specs.Format.{binary64}
 use Rattle.flags.proofs.AnswerLaws.{answers-iff, said-yes, no-so}
 use Rattle.end_pairs.proofs.Shapes.{shape, point-when, point-bounded, point-only}
 use Rattle.end_pairs.proofs.questions.is_point.Statement.{statement}
 use Rattle.end_pairs.proofs.questions.is_point.Tie as tie
-
-is-bounded-requires : tie.Need-is-bounded-requires
-is-bounded-requires c κs = tt
-
-less-or-equal-requires : tie.Need-less-or-equal-requires
-less-or-equal-requires c κs = tt
 
 returns : tie.Need-returns
 returns c =
@@ -21,4 +16,4 @@ returns-2 : tie.Need-returns-2
 returns-2 c = no-so (point-bounded binary64 (shape binary64 _ (c .before .before .pre))) (c .before .is-bounded .ensures) (c .if1 .left)
 
 pub is-point-spec : {M : Type 1} → statement M
-is-point-spec = tie.close (tie.spec is-bounded-requires less-or-equal-requires returns returns-2)
+is-point-spec = tie.close (tie.spec (search needs) (search needs) returns returns-2)

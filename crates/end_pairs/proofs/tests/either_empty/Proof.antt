@@ -1,14 +1,9 @@
 -- `tests::either_empty` meets its contract: the first test settles it, or the second does.
 use mathlib.Core.Logic.{inl}
+use borrow.Author.Needs.{needs}
 use Rattle.flags.proofs.AnswerLaws.{said-no, yes-so, or-else}
 use Rattle.end_pairs.proofs.tests.either_empty.Statement.{statement}
 use Rattle.end_pairs.proofs.tests.either_empty.Tie as tie
-
-is-empty-pair-requires : tie.Need-is-empty-pair-requires
-is-empty-pair-requires c κs = tt
-
-is-empty-pair-requires-2 : tie.Need-is-empty-pair-requires-2
-is-empty-pair-requires-2 c κs = tt
 
 returns : tie.Need-returns
 returns c = yes-so inl (c .before .is-empty-pair .ensures) (c .if1 .taken)
@@ -17,5 +12,4 @@ returns-2 : tie.Need-returns-2
 returns-2 c = or-else (said-no (c .before .before .is-empty-pair .ensures) (c .before .if1 .left)) (c .is-empty-pair2 .ensures)
 
 pub either-empty-spec : {M : Type 1} → statement M
-either-empty-spec =
-    tie.close (tie.spec is-empty-pair-requires is-empty-pair-requires-2 returns returns-2)
+either-empty-spec = tie.close (tie.spec (search needs) (search needs) returns returns-2)

@@ -1,14 +1,9 @@
 -- `tests::has_ends` meets its contract: the first test settles it, or the second does.
 use mathlib.Core.Logic.{inl}
+use borrow.Author.Needs.{needs}
 use Rattle.flags.proofs.AnswerLaws.{said-no, yes-so, or-else}
 use Rattle.end_pairs.proofs.tests.has_ends.Statement.{statement}
 use Rattle.end_pairs.proofs.tests.has_ends.Tie as tie
-
-is-bare-requires : tie.Need-is-bare-requires
-is-bare-requires c κs = tt
-
-are-nans-requires : tie.Need-are-nans-requires
-are-nans-requires c κs = tt
 
 returns : tie.Need-returns
 returns c = yes-so inl (c .before .is-bare .ensures) (c .if1 .taken)
@@ -17,4 +12,4 @@ returns-2 : tie.Need-returns-2
 returns-2 c = or-else (said-no (c .before .before .is-bare .ensures) (c .before .if1 .left)) (c .are-nans .ensures)
 
 pub has-ends-spec : {M : Type 1} → statement M
-has-ends-spec = tie.close (tie.spec is-bare-requires are-nans-requires returns returns-2)
+has-ends-spec = tie.close (tie.spec (search needs) (search needs) returns returns-2)

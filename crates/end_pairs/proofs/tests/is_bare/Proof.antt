@@ -1,14 +1,9 @@
 -- `tests::is_bare` meets its contract: the first test settles it, or the second does.
 use mathlib.Core.Logic.{inl}
+use borrow.Author.Needs.{needs}
 use Rattle.flags.proofs.AnswerLaws.{said-no, yes-so, or-else}
 use Rattle.end_pairs.proofs.tests.is_bare.Statement.{statement}
 use Rattle.end_pairs.proofs.tests.is_bare.Tie as tie
-
-is-proper-requires : tie.Need-is-proper-requires
-is-proper-requires c κs = tt
-
-is-empty-pair-requires : tie.Need-is-empty-pair-requires
-is-empty-pair-requires c κs = tt
 
 returns : tie.Need-returns
 returns c = yes-so inl (c .before .is-proper .ensures) (c .if1 .taken)
@@ -17,4 +12,4 @@ returns-2 : tie.Need-returns-2
 returns-2 c = or-else (said-no (c .before .before .is-proper .ensures) (c .before .if1 .left)) (c .is-empty-pair .ensures)
 
 pub is-bare-spec : {M : Type 1} → statement M
-is-bare-spec = tie.close (tie.spec is-proper-requires is-empty-pair-requires returns returns-2)
+is-bare-spec = tie.close (tie.spec (search needs) (search needs) returns returns-2)

@@ -1,13 +1,11 @@
 -- `tests::is_lower` meets its contract: the first test settles it, or the second does.
 use mathlib.Core.Logic.{inl}
+use borrow.Author.Needs.{needs}
 use Rattle.patterns.specs.Format.{infinity, signBit}
 use Rattle.meaning.specs.Pairs.{minusInfinity}
 use Rattle.flags.proofs.AnswerLaws.{answers-eq, said-no, yes-so, or-else}
 use Rattle.end_pairs.proofs.tests.is_lower.Statement.{statement}
 use Rattle.end_pairs.proofs.tests.is_lower.Tie as tie
-
-is-finite-requires : tie.Need-is-finite-requires
-is-finite-requires c κs = tt
 
 returns : tie.Need-returns
 returns c = yes-so inl (c .before .is-finite .ensures) (c .if1 .taken)
@@ -17,4 +15,4 @@ unfolding infinity signBit minusInfinity
 returns-2 c = or-else (said-no (c .before .is-finite .ensures) (c .if1 .left)) (answers-eq _ _ (λ e. e) (λ n e. n e))
 
 pub is-lower-spec : {M : Type 1} → statement M
-is-lower-spec = tie.close (tie.spec is-finite-requires returns returns-2)
+is-lower-spec = tie.close (tie.spec (search needs) returns returns-2)

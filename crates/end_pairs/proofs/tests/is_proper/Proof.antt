@@ -1,5 +1,6 @@
 -- `tests::is_proper` meets its contract: each end is tested, and then their order.
 use borrow.Author.Tests.{not-true, not-false}
+use borrow.Author.Needs.{needs}
 use Rattle.patterns.specs.Format.{binary64}
 use Rattle.flags.specs.Answers.{denied}
 use Rattle.flags.proofs.AnswerLaws.{said-yes, said-no, no-so}
@@ -7,17 +8,8 @@ use Rattle.end_pairs.proofs.TestLaws.{answers-proper}
 use Rattle.end_pairs.proofs.tests.is_proper.Statement.{statement}
 use Rattle.end_pairs.proofs.tests.is_proper.Tie as tie
 
-is-lower-requires : tie.Need-is-lower-requires
-is-lower-requires c κs = tt
-
 returns : tie.Need-returns
 returns c = denied (λ p. said-no (c .before .is-lower .ensures) (not-true _ (c .if1 .taken)) (p .lowerEnd))
-
-is-upper-requires : tie.Need-is-upper-requires
-is-upper-requires c κs = tt
-
-less-or-equal-requires : tie.Need-less-or-equal-requires
-less-or-equal-requires c κs = tt
 
 returns-2 : tie.Need-returns-2
 returns-2 c =
@@ -30,12 +22,4 @@ returns-3 : tie.Need-returns-3
 returns-3 c = no-so (λ p. p .upperEnd) (c .before .is-upper .ensures) (c .if2 .left)
 
 pub is-proper-spec : {M : Type 1} → statement M
-is-proper-spec =
-    tie.close
-    (tie.spec
-    is-lower-requires
-    returns
-    is-upper-requires
-    less-or-equal-requires
-    returns-2
-    returns-3)
+is-proper-spec = tie.close (tie.spec (search needs) returns (search needs) (search needs) returns-2 returns-3)

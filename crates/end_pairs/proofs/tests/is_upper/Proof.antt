@@ -1,12 +1,10 @@
 -- `tests::is_upper` meets its contract: the first test settles it, or the second does.
 use mathlib.Core.Logic.{inl}
+use borrow.Author.Needs.{needs}
 use Rattle.patterns.specs.Format.{infinity}
 use Rattle.flags.proofs.AnswerLaws.{answers-eq, said-no, yes-so, or-else}
 use Rattle.end_pairs.proofs.tests.is_upper.Statement.{statement}
 use Rattle.end_pairs.proofs.tests.is_upper.Tie as tie
-
-is-finite-requires : tie.Need-is-finite-requires
-is-finite-requires c κs = tt
 
 returns : tie.Need-returns
 returns c = yes-so inl (c .before .is-finite .ensures) (c .if1 .taken)
@@ -16,4 +14,4 @@ unfolding infinity
 returns-2 c = or-else (said-no (c .before .is-finite .ensures) (c .if1 .left)) (answers-eq _ _ (λ e. e) (λ n e. n e))
 
 pub is-upper-spec : {M : Type 1} → statement M
-is-upper-spec = tie.close (tie.spec is-finite-requires returns returns-2)
+is-upper-spec = tie.close (tie.spec (search needs) returns returns-2)

@@ -1,5 +1,6 @@
 -- `decoration::allowed` meets its contract: each test picks its case.
 use borrow.Author.Tests.{not-true, not-false}
+use borrow.Author.Needs.{needs}
 use Rattle.patterns.specs.Format.{binary64}
 use Rattle.meaning.specs.Decorations.{ofEmpty, ofMany, ofJump, ofPoint}
 use Rattle.meaning.proofs.PairLaws.{set-empty}
@@ -8,9 +9,6 @@ use Rattle.wholes.specs.Made.{operation}
 use Rattle.integer.proofs.JumpLaws.{allows, operand-proper, result-proper, proper-some}
 use Rattle.integer.proofs.decoration.allowed.Statement.{statement}
 use Rattle.integer.proofs.decoration.allowed.Tie as tie
-
-is-empty-pair-requires : tie.Need-is-empty-pair-requires
-is-empty-pair-requires c κs = tt
 
 returns : tie.Need-returns
 returns c =
@@ -47,12 +45,4 @@ returns-4 c =
 
 pub allowed-spec : {M : Type 1} → statement M
 allowed-spec =
-    tie.close
-    (tie.spec
-    is-empty-pair-requires
-    returns
-    is-point-requires
-    returns-2
-    jumps-requires
-    returns-3
-    returns-4)
+    tie.close (tie.spec (search needs) returns is-point-requires returns-2 jumps-requires returns-3 returns-4)

@@ -15,24 +15,6 @@ use Rattle.integer.proofs.ends.end_of_none.Tie as tie
 by-name : {f g : Function} {b r : ℕ} → f ≡ g → UpperMade binary64 (operation g) b r → UpperMade binary64 (operation f) b r
 by-name {b = b} {r} e = subst⁻¹ (λ (f : Function). UpperMade binary64 (operation f) b r) e
 
-enum-told : tie.Need-enum-told
-enum-told c = search needs
-
-enum-told-2 : tie.Need-enum-told-2
-enum-told-2 c = search needs
-
-enum-told-3 : tie.Need-enum-told-3
-enum-told-3 c = search needs
-
-enum-told-4 : tie.Need-enum-told-4
-enum-told-4 c = search needs
-
-enum-told-5 : tie.Need-enum-told-5
-enum-told-5 c = search needs
-
-enum-told-6 : tie.Need-enum-told-6
-enum-told-6 c = search needs
-
 returns : tie.Need-returns
 unfolding infinity
 returns c = by-name (c .enum-told .given .1) (made-none binary64 keepsCeil)
@@ -59,17 +41,5 @@ returns-6 c = by-name (c .enum-told6 .given .1) (made-none binary64 keepsTrunc)
 
 pub end-of-none-spec : {M : Type 1} → statement M
 end-of-none-spec =
-    tie.close
-    (tie.spec
-    enum-told
-    enum-told-2
-    enum-told-3
-    enum-told-4
-    enum-told-5
-    enum-told-6
-    returns
-    returns-2
-    returns-3
-    returns-4
-    returns-5
-    returns-6)
+    tie.close (tie.spec (search needs) (search needs) (search needs) (search needs) (search needs) (search needs)
+    returns returns-2 returns-3 returns-4 returns-5 returns-6)

@@ -1,11 +1,9 @@
 -- `ends::upper_end` meets its contract: an end is infinite or a number.
+use borrow.Author.Needs.{needs}
 use Rattle.patterns.specs.Format.{binary64, infinity}
 use Rattle.integer.proofs.RisingLaws.{made-number, upper-number}
 use Rattle.integer.proofs.ends.upper_end.Statement.{statement}
 use Rattle.integer.proofs.ends.upper_end.Tie as tie
-
-end-of-none-requires : tie.Need-end-of-none-requires
-end-of-none-requires c κs = tt
 
 returns : tie.Need-returns
 unfolding infinity
@@ -20,4 +18,4 @@ unfolding infinity
 returns-2 c = made-number binary64 (upper-number binary64 (c .before .before .pre) (c .before .if1 .left)) (c .value-at .ensures)
 
 pub upper-end-spec : {M : Type 1} → statement M
-upper-end-spec = tie.close (tie.spec end-of-none-requires returns value-at-requires returns-2)
+upper-end-spec = tie.close (tie.spec (search needs) returns value-at-requires returns-2)

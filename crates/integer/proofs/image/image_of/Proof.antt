@@ -1,5 +1,6 @@
 -- `image::image_of` meets its contract: the ends of a rising function's results are what it makes of the ends.
 use mathlib.Core.Path.{subst⁻¹}
+use borrow.Author.Needs.{needs}
 use Rattle.patterns.specs.Format.{binary64, infinity, signBit}
 use Rattle.meaning.specs.Pairs.{minusInfinity}
 use Rattle.flags.proofs.AnswerLaws.{said-yes, said-no}
@@ -11,18 +12,9 @@ use Rattle.integer.proofs.RisingLaws.{image-hull}
 use Rattle.integer.proofs.image.image_of.Statement.{statement}
 use Rattle.integer.proofs.image.image_of.Tie as tie
 
-is-empty-pair-requires : tie.Need-is-empty-pair-requires
-is-empty-pair-requires c κs = tt
-
 returns : tie.Need-returns
 unfolding infinity minusInfinity signBit
 returns c = empty-hull₁ binary64 (operation (c .before .before .args .f)) _ (said-yes (c .before .is-empty-pair .ensures) (c .if1 .taken))
-
-mirrored-requires : tie.Need-mirrored-requires
-mirrored-requires c κs = tt
-
-opposite-requires : tie.Need-opposite-requires
-opposite-requires c κs = tt
 
 upper-end-requires : tie.Need-upper-end-requires
 upper-end-requires c κs =
@@ -33,9 +25,6 @@ upper-end-requires-2 : tie.Need-upper-end-requires-2
 upper-end-requires-2 c κs =
     not-empty binary64 (c .before .before .before .before .before .pre) (said-no (c .before .before .before .before .is-empty-pair .ensures) (c .before .before .before .if1 .left)) .upperEnd
 
-outward-requires : tie.Need-outward-requires
-outward-requires c κs = tt
-
 returns-2 : tie.Need-returns-2
 returns-2 c =
     let h = not-empty binary64 (c .before .before .before .before .before .before .before .pre) (said-no (c .before .before .before .before .before .before .is-empty-pair .ensures) (c .before .before .before .before .before .if1 .left)) in
@@ -45,13 +34,5 @@ returns-2 c =
 
 pub image-of-spec : {M : Type 1} → statement M
 image-of-spec =
-    tie.close
-    (tie.spec
-    is-empty-pair-requires
-    returns
-    mirrored-requires
-    opposite-requires
-    upper-end-requires
-    upper-end-requires-2
-    outward-requires
-    returns-2)
+    tie.close (tie.spec (search needs) returns (search needs) (search needs) upper-end-requires upper-end-requires-2
+    (search needs) returns-2)

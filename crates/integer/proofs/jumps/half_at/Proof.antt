@@ -1,12 +1,10 @@
 -- `jumps::half_at` meets its contract: only a finite end has a fractional part.
+use borrow.Author.Needs.{needs}
 use Rattle.patterns.specs.Format.{binary64, signBit}
 use Rattle.flags.proofs.AnswerLaws.{said-yes, no-so}
 use Rattle.integer.proofs.JumpLaws.{answers-half, half-finite}
 use Rattle.integer.proofs.jumps.half_at.Statement.{statement}
 use Rattle.integer.proofs.jumps.half_at.Tie as tie
-
-is-finite-requires : tie.Need-is-finite-requires
-is-finite-requires c κs = tt
 
 has-half-requires : tie.Need-has-half-requires
 has-half-requires c κs = said-yes (c .before .is-finite .ensures) (c .if1 .taken)
@@ -19,4 +17,4 @@ unfolding signBit
 returns-2 c = no-so (half-finite binary64 (c .before .before .fits .b .fits)) (c .before .is-finite .ensures) (c .if1 .left)
 
 pub half-at-spec : {M : Type 1} → statement M
-half-at-spec = tie.close (tie.spec is-finite-requires has-half-requires returns returns-2)
+half-at-spec = tie.close (tie.spec (search needs) has-half-requires returns returns-2)

@@ -1,16 +1,11 @@
 -- `jumps::half_end` meets its contract: the lower end is asked, then the upper end.
 use mathlib.Core.Logic.{inl}
+use borrow.Author.Needs.{needs}
 use Rattle.patterns.specs.Format.{binary64}
 use Rattle.flags.proofs.AnswerLaws.{said-no, yes-so, answers-iff, or-else}
 use Rattle.integer.proofs.JumpLaws.{half-some, some-half}
 use Rattle.integer.proofs.jumps.half_end.Statement.{statement}
 use Rattle.integer.proofs.jumps.half_end.Tie as tie
-
-half-at-requires : tie.Need-half-at-requires
-half-at-requires c κs = tt
-
-half-at-requires-2 : tie.Need-half-at-requires-2
-half-at-requires-2 c κs = tt
 
 returns : tie.Need-returns
 returns c = yes-so (λ h. half-some binary64 (c .before .before .pre) (inl h)) (c .before .half-at .ensures) (c .if1 .taken)
@@ -22,4 +17,4 @@ returns-2 c =
     (or-else (said-no (c .before .before .half-at .ensures) (c .before .if1 .left)) (c .half-at2 .ensures))
 
 pub half-end-spec : {M : Type 1} → statement M
-half-end-spec = tie.close (tie.spec half-at-requires half-at-requires-2 returns returns-2)
+half-end-spec = tie.close (tie.spec (search needs) (search needs) returns returns-2)

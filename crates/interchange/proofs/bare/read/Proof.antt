@@ -9,15 +9,6 @@ use Rattle.flags.proofs.AnswerLaws.{said-yes, said-no}
 use Rattle.interchange.proofs.bare.read.Statement.{statement}
 use Rattle.interchange.proofs.bare.read.Tie as tie
 
-slice-aggregate-read-ends : tie.Need-slice-aggregate-read-ends
-slice-aggregate-read-ends c = search needs
-
-read-ends-requires : tie.Need-read-ends-requires
-read-ends-requires c κs = search needs
-
-is-canonical-requires : tie.Need-is-canonical-requires
-is-canonical-requires c κs = tt
-
 from-ends-requires : tie.Need-from-ends-requires
 from-ends-requires c κs = said-yes (c .before .is-canonical .ensures) (c .if1 .taken) .bare
 
@@ -33,6 +24,4 @@ returns-2 c =
     first₁ (bytesFive (λ k. said-no (c .before .is-canonical .ensures) (c .if1 .left) (subst⁻¹ (Canonical binary64) read k)))
 
 pub read-spec : {M : Type 1} → statement M
-read-spec =
-    tie.close
-    (tie.spec slice-aggregate-read-ends read-ends-requires is-canonical-requires from-ends-requires returns returns-2)
+read-spec = tie.close (tie.spec (search needs) (search needs) (search needs) from-ends-requires returns returns-2)

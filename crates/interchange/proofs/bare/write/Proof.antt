@@ -8,23 +8,8 @@ use Rattle.interval.proofs.StatementLaws.{judged-sound, answered-wrong, sound-b
 use Rattle.interchange.proofs.bare.write.Statement.{statement}
 use Rattle.interchange.proofs.bare.write.Tie as tie
 
-judge-requires : tie.Need-judge-requires
-judge-requires c κs = tt
-
-enum-told : tie.Need-enum-told
-enum-told c = c .match .keys1
-
-slice-aggregate-write-ends : tie.Need-slice-aggregate-write-ends
-slice-aggregate-write-ends c = search needs
-
 canonical-requires : tie.Need-canonical-requires
 canonical-requires c κs = sound-bare (judged-sound (JudgedBare binary64) (c .before .before .before .judge .ensures) (c .before .enum-told .given .1))
-
-write-ends-requires : tie.Need-write-ends-requires
-write-ends-requires c κs = search needs
-
-enum-known-n : tie.Need-enum-known-n
-enum-known-n c = c .match .keys2
 
 returns : tie.Need-returns
 returns c =
@@ -47,13 +32,5 @@ returns-2 c =
 
 pub write-spec : {M : Type 1} → statement M
 write-spec =
-    tie.close
-    (tie.spec
-    judge-requires
-    enum-told
-    slice-aggregate-write-ends
-    canonical-requires
-    write-ends-requires
-    enum-known-n
-    returns
-    returns-2)
+    tie.close (tie.spec (search needs) (search needs) (search needs) canonical-requires (search needs) (search needs)
+    returns returns-2)

@@ -1,15 +1,10 @@
 -- `canonical::has_bytes_ends` meets its contract: the first test settles it, or the second does.
+use borrow.Author.Needs.{needs}
 use Rattle.meaning.specs.Bytes.{canonicalEnds, nanEnds}
 use Rattle.flags.proofs.AnswerLaws.{answers-iff, said-no, yes-so}
 use Rattle.interchange.proofs.ReadLaws.{only-nans}
 use Rattle.interchange.proofs.canonical.has_bytes_ends.Statement.{statement}
 use Rattle.interchange.proofs.canonical.has_bytes_ends.Tie as tie
-
-is-canonical-requires : tie.Need-is-canonical-requires
-is-canonical-requires c κs = tt
-
-are-nans-requires : tie.Need-are-nans-requires
-are-nans-requires c κs = tt
 
 returns : tie.Need-returns
 returns c = yes-so canonicalEnds (c .before .is-canonical .ensures) (c .if1 .taken)
@@ -19,5 +14,4 @@ returns-2 c =
     answers-iff nanEnds (only-nans (said-no (c .before .before .is-canonical .ensures) (c .before .if1 .left))) (c .are-nans .ensures)
 
 pub has-bytes-ends-spec : {M : Type 1} → statement M
-has-bytes-ends-spec =
-    tie.close (tie.spec is-canonical-requires are-nans-requires returns returns-2)
+has-bytes-ends-spec = tie.close (tie.spec (search needs) (search needs) returns returns-2)

@@ -1,4 +1,5 @@
 -- `canonical::is_canonical` meets its contract: each zero is tested, and then the interval.
+use borrow.Author.Needs.{needs}
 use Rattle.patterns.specs.Format.{signBit}
 use Rattle.flags.specs.Answers.{denied}
 use Rattle.flags.proofs.AnswerLaws.{answers-iff}
@@ -12,9 +13,6 @@ returns-2 : tie.Need-returns-2
 unfolding signBit
 returns-2 c = denied (λ k. k .upperZero (c .if2 .taken))
 
-is-bare-requires : tie.Need-is-bare-requires
-is-bare-requires c κs = tt
-
 returns-3 : tie.Need-returns-3
 unfolding signBit
 returns-3 c =
@@ -22,4 +20,4 @@ returns-3 c =
     (λ k. k .bare) (c .is-bare .ensures)
 
 pub is-canonical-spec : {M : Type 1} → statement M
-is-canonical-spec = tie.close (tie.spec returns returns-2 is-bare-requires returns-3)
+is-canonical-spec = tie.close (tie.spec returns returns-2 (search needs) returns-3)

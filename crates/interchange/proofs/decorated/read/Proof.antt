@@ -6,27 +6,6 @@ use Rattle.interchange.proofs.ReadLaws.{known, unknown, read-known}
 use Rattle.interchange.proofs.decorated.read.Statement.{statement}
 use Rattle.interchange.proofs.decorated.read.Tie as tie
 
-array-read-decoration-of : tie.Need-array-read-decoration-of
-array-read-decoration-of c = search needs
-
-decoration-of-requires : tie.Need-decoration-of-requires
-decoration-of-requires c κs = tt
-
-enum-known-d : tie.Need-enum-known-d
-enum-known-d c = c .match .keys1
-
-slice-aggregate-read-ends : tie.Need-slice-aggregate-read-ends
-slice-aggregate-read-ends c = search needs
-
-read-ends-requires : tie.Need-read-ends-requires
-read-ends-requires c κs = search needs
-
-answer-read-requires : tie.Need-answer-read-requires
-answer-read-requires c κs = tt
-
-enum-told : tie.Need-enum-told
-enum-told c = c .match .keys2
-
 returns : tie.Need-returns
 returns c =
     read-known
@@ -40,14 +19,5 @@ returns-2 c = first₁ (bytesFour (λ d s. unknown (c .before .before .decoratio
 
 pub read-spec : {M : Type 1} → statement M
 read-spec =
-    tie.close
-    (tie.spec
-    array-read-decoration-of
-    decoration-of-requires
-    enum-known-d
-    slice-aggregate-read-ends
-    read-ends-requires
-    answer-read-requires
-    enum-told
-    returns
-    returns-2)
+    tie.close (tie.spec (search needs) (search needs) (search needs) (search needs) (search needs) (search needs)
+    (search needs) returns returns-2)

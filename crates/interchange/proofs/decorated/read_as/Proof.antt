@@ -1,4 +1,5 @@
 -- `decorated::read_as` meets its contract: NaI is answered by its constant.
+use borrow.Author.Needs.{needs}
 use Rattle.patterns.specs.Format.{binary64, infinity, quietNaN}
 use Rattle.flags.proofs.AnswerLaws.{said-yes, said-no}
 use Rattle.end_pairs.proofs.KindLaws.{only-bare}
@@ -6,9 +7,6 @@ use Rattle.interchange.specs.Reading.{asNaI}
 use Rattle.interchange.proofs.ReadLaws.{bytes-ends, as-itself}
 use Rattle.interchange.proofs.decorated.read_as.Statement.{statement}
 use Rattle.interchange.proofs.decorated.read_as.Tie as tie
-
-are-nans-requires : tie.Need-are-nans-requires
-are-nans-requires c κs = tt
 
 returns : tie.Need-returns
 unfolding infinity quietNaN
@@ -22,4 +20,4 @@ returns-2 : tie.Need-returns-2
 returns-2 c = as-itself (c .from-ends .ensures) (said-no (c .before .before .are-nans .ensures) (c .before .if1 .left))
 
 pub read-as-spec : {M : Type 1} → statement M
-read-as-spec = tie.close (tie.spec are-nans-requires returns from-ends-requires returns-2)
+read-as-spec = tie.close (tie.spec (search needs) returns from-ends-requires returns-2)

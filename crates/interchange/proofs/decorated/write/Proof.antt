@@ -14,29 +14,8 @@ use Rattle.end_bytes.proofs.PlaceLaws.{placed-byte}
 use Rattle.interchange.proofs.decorated.write.Statement.{statement}
 use Rattle.interchange.proofs.decorated.write.Tie as tie
 
-judge-dec-requires : tie.Need-judge-dec-requires
-judge-dec-requires c κs = tt
-
-enum-told : tie.Need-enum-told
-enum-told c = c .match .keys1
-
 canonical-dec-requires : tie.Need-canonical-dec-requires
 canonical-dec-requires c κs = sound-ends (judged-sound (JudgedDecorated binary64) (c .before .before .judge-dec .ensures) (c .enum-told .given .1))
-
-slice-aggregate-write-ends : tie.Need-slice-aggregate-write-ends
-slice-aggregate-write-ends c = search needs
-
-write-ends-requires : tie.Need-write-ends-requires
-write-ends-requires c κs = search needs
-
-decoration-byte-requires : tie.Need-decoration-byte-requires
-decoration-byte-requires c κs = tt
-
-array-write-bytes : tie.Need-array-write-bytes
-array-write-bytes c = search needs
-
-enum-known-n : tie.Need-enum-known-n
-enum-known-n c = c .match .keys2
 
 returns : tie.Need-returns
 returns c =
@@ -68,15 +47,5 @@ returns-2 c =
 
 pub write-spec : {M : Type 1} → statement M
 write-spec =
-    tie.close
-    (tie.spec
-    judge-dec-requires
-    enum-told
-    canonical-dec-requires
-    slice-aggregate-write-ends
-    write-ends-requires
-    decoration-byte-requires
-    array-write-bytes
-    enum-known-n
-    returns
-    returns-2)
+    tie.close (tie.spec (search needs) (search needs) canonical-dec-requires (search needs) (search needs)
+    (search needs) (search needs) (search needs) returns returns-2)

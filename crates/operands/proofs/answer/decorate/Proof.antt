@@ -8,12 +8,6 @@ use Rattle.interval.specs.Conversions.{pairOf}
 use Rattle.operands.proofs.answer.decorate.Statement.{statement}
 use Rattle.operands.proofs.answer.decorate.Tie as tie
 
-lower-decoration-requires : tie.Need-lower-decoration-requires
-lower-decoration-requires c κs = tt
-
-settled-requires : tie.Need-settled-requires
-settled-requires c κs = search needs
-
 returns : tie.Need-returns
 returns c =
     record {
@@ -22,4 +16,4 @@ returns c =
     }
 
 pub decorate-spec : {M : Type 1} → statement M
-decorate-spec = tie.close (tie.spec lower-decoration-requires settled-requires returns)
+decorate-spec = tie.close (tie.spec (search needs) (search needs) returns)

@@ -1,14 +1,12 @@
 -- `sound::one_operand` meets its contract: a sound operand is NaI or an interval.
 use mathlib.Core.Path.{refl}
+use borrow.Author.Needs.{needs}
 use Rattle.patterns.specs.Format.{binary64}
 use Rattle.flags.proofs.AnswerLaws.{said-yes, said-no}
 use Rattle.operands.specs.Sorted.{sortedNaI, sortedIntervals}
 use Rattle.operands.proofs.SortedLaws.{sound-bare, sound-not-ill}
 use Rattle.operands.proofs.sound.one_operand.Statement.{statement}
 use Rattle.operands.proofs.sound.one_operand.Tie as tie
-
-are-nans-requires : tie.Need-are-nans-requires
-are-nans-requires c κs = tt
 
 returns : tie.Need-returns
 returns c = sortedNaI (said-yes (c .before .are-nans .ensures) (c .if1 .taken))
@@ -20,4 +18,4 @@ returns-2 c =
     (record { notNaI = n; bares = sound-bare binary64 (c .before .before .pre) n; notIll = sound-not-ill binary64 (c .before .before .pre) n; is = refl })
 
 pub one-operand-spec : {M : Type 1} → statement M
-one-operand-spec = tie.close (tie.spec are-nans-requires returns returns-2)
+one-operand-spec = tie.close (tie.spec (search needs) returns returns-2)

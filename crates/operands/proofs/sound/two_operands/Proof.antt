@@ -1,5 +1,6 @@
 -- `sound::two_operands` meets its contract: each sound operand is NaI or an interval.
 use mathlib.Core.Logic.{inl, inr, ⊎-elim}
+use borrow.Author.Needs.{needs}
 use Rattle.patterns.specs.Format.{binary64}
 use Rattle.decorations.specs.Conversions.{decorationOf}
 use Rattle.flags.proofs.AnswerLaws.{said-yes, said-no}
@@ -8,20 +9,11 @@ use Rattle.operands.proofs.SortedLaws.{sound-bare, sound-not-ill, lower
 use Rattle.operands.proofs.sound.two_operands.Statement.{statement}
 use Rattle.operands.proofs.sound.two_operands.Tie as tie
 
-are-nans-requires : tie.Need-are-nans-requires
-are-nans-requires c κs = tt
-
 returns : tie.Need-returns
 returns c = sortedNaI (inl (said-yes (c .before .are-nans .ensures) (c .if1 .taken)))
 
-are-nans-requires-2 : tie.Need-are-nans-requires-2
-are-nans-requires-2 c κs = tt
-
 returns-2 : tie.Need-returns-2
 returns-2 c = sortedNaI (inr (said-yes (c .before .are-nans2 .ensures) (c .if2 .taken)))
-
-lower-decoration-requires : tie.Need-lower-decoration-requires
-lower-decoration-requires c κs = tt
 
 returns-3 : tie.Need-returns-3
 returns-3 c =
@@ -37,12 +29,4 @@ returns-3 c =
     })
 
 pub two-operands-spec : {M : Type 1} → statement M
-two-operands-spec =
-    tie.close
-    (tie.spec
-    are-nans-requires
-    returns
-    are-nans-requires-2
-    returns-2
-    lower-decoration-requires
-    returns-3)
+two-operands-spec = tie.close (tie.spec (search needs) returns (search needs) returns-2 (search needs) returns-3)

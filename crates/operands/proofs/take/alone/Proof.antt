@@ -6,12 +6,6 @@ use Rattle.interval.specs.Conversions.{verdictOf}
 use Rattle.operands.proofs.take.alone.Statement.{statement}
 use Rattle.operands.proofs.take.alone.Tie as tie
 
-enum-told : tie.Need-enum-told
-enum-told c = search needs
-
-enum-known-x : tie.Need-enum-known-x
-enum-known-x c = search needs
-
 returns : tie.Need-returns
 returns c = right₁ (ap verdictOf (c .enum-told .given .1)) tt
 
@@ -19,4 +13,4 @@ returns-2 : tie.Need-returns-2
 returns-2 c = first₁ (ap verdictOf (c .before .x .given .1))
 
 pub alone-spec : {M : Type 1} → statement M
-alone-spec = tie.close (tie.spec enum-told enum-known-x returns returns-2)
+alone-spec = tie.close (tie.spec (search needs) (search needs) returns returns-2)

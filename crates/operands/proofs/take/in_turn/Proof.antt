@@ -6,18 +6,6 @@ use Rattle.interval.specs.Conversions.{verdictOf}
 use Rattle.operands.proofs.take.in_turn.Statement.{statement}
 use Rattle.operands.proofs.take.in_turn.Tie as tie
 
-enum-told : tie.Need-enum-told
-enum-told c = search needs
-
-enum-told-2 : tie.Need-enum-told-2
-enum-told-2 c = search needs
-
-enum-known-y : tie.Need-enum-known-y
-enum-known-y c = search needs
-
-enum-known-x : tie.Need-enum-known-x
-enum-known-x c = search needs
-
 returns : tie.Need-returns
 returns c = right₂ (ap verdictOf (c .before .before .enum-told .given .1)) (ap verdictOf (c .enum-told2 .given .1)) tt
 
@@ -29,5 +17,4 @@ returns-3 c = first₂ (ap verdictOf (c .before .x .given .1))
 
 pub in-turn-spec : {M : Type 1} → statement M
 in-turn-spec =
-    tie.close
-    (tie.spec enum-told enum-told-2 enum-known-y enum-known-x returns returns-2 returns-3)
+    tie.close (tie.spec (search needs) (search needs) (search needs) (search needs) returns returns-2 returns-3)

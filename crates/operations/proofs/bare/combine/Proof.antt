@@ -6,9 +6,6 @@ use Rattle.meaning.specs.Statement.{HullOf}
 use Rattle.operations.proofs.bare.combine.Statement.{statement}
 use Rattle.operations.proofs.bare.combine.Tie as tie
 
-combine-ends-requires : tie.Need-combine-ends-requires
-combine-ends-requires c κs = search needs
-
 from-ends-requires : tie.Need-from-ends-requires
 from-ends-requires c κs = c .combine-ends .ensures .canonical .bare
 
@@ -16,4 +13,4 @@ returns : tie.Need-returns
 returns c = subst⁻¹ (HullOf binary64 _) (c .from-ends .ensures) (c .before .combine-ends .ensures)
 
 pub combine-spec : {M : Type 1} → statement M
-combine-spec = tie.close (tie.spec combine-ends-requires from-ends-requires returns)
+combine-spec = tie.close (tie.spec (search needs) from-ends-requires returns)

@@ -4,54 +4,6 @@ use Rattle.operations.proofs.NameLaws.{combined-named}
 use Rattle.operations.proofs.bare.combine_ends.Statement.{statement}
 use Rattle.operations.proofs.bare.combine_ends.Tie as tie
 
-enum-told : tie.Need-enum-told
-enum-told c = c .match .keys1
-
-add-of-requires : tie.Need-add-of-requires
-add-of-requires c κs = search needs
-
-enum-told-2 : tie.Need-enum-told-2
-enum-told-2 c = c .match .keys2
-
-sub-of-requires : tie.Need-sub-of-requires
-sub-of-requires c κs = search needs
-
-enum-told-3 : tie.Need-enum-told-3
-enum-told-3 c = c .match .keys3
-
-mul-of-requires : tie.Need-mul-of-requires
-mul-of-requires c κs = search needs
-
-enum-told-4 : tie.Need-enum-told-4
-enum-told-4 c = c .match .keys4
-
-div-of-requires : tie.Need-div-of-requires
-div-of-requires c κs = search needs
-
-enum-told-5 : tie.Need-enum-told-5
-enum-told-5 c = c .match .keys5
-
-convex-hull-of-requires : tie.Need-convex-hull-of-requires
-convex-hull-of-requires c κs = search needs
-
-enum-told-6 : tie.Need-enum-told-6
-enum-told-6 c = c .match .keys6
-
-intersection-of-requires : tie.Need-intersection-of-requires
-intersection-of-requires c κs = search needs
-
-enum-told-7 : tie.Need-enum-told-7
-enum-told-7 c = c .match .keys7
-
-max-of-requires : tie.Need-max-of-requires
-max-of-requires c κs = search needs
-
-enum-told-8 : tie.Need-enum-told-8
-enum-told-8 c = c .match .keys8
-
-min-of-requires : tie.Need-min-of-requires
-min-of-requires c κs = search needs
-
 returns : tie.Need-returns
 returns c = combined-named (c .before .enum-told .given .1) _ _ (c .add-of .ensures)
 
@@ -78,29 +30,7 @@ returns-8 c = combined-named (c .before .enum-told8 .given .1) _ _ (c .min-of .e
 
 pub combine-ends-spec : {M : Type 1} → statement M
 combine-ends-spec =
-    tie.close
-    (tie.spec
-    enum-told
-    add-of-requires
-    enum-told-2
-    sub-of-requires
-    enum-told-3
-    mul-of-requires
-    enum-told-4
-    div-of-requires
-    enum-told-5
-    convex-hull-of-requires
-    enum-told-6
-    intersection-of-requires
-    enum-told-7
-    max-of-requires
-    enum-told-8
-    min-of-requires
-    returns
-    returns-2
-    returns-3
-    returns-4
-    returns-5
-    returns-6
-    returns-7
+    tie.close (tie.spec (search needs) (search needs) (search needs) (search needs) (search needs) (search needs)
+    (search needs) (search needs) (search needs) (search needs) (search needs) (search needs) (search needs)
+    (search needs) (search needs) (search needs) returns returns-2 returns-3 returns-4 returns-5 returns-6 returns-7
     returns-8)

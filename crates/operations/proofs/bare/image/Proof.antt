@@ -6,9 +6,6 @@ use Rattle.meaning.specs.Statement.{HullOf}
 use Rattle.operations.proofs.bare.image.Statement.{statement}
 use Rattle.operations.proofs.bare.image.Tie as tie
 
-image-ends-requires : tie.Need-image-ends-requires
-image-ends-requires c κs = search needs
-
 from-ends-requires : tie.Need-from-ends-requires
 from-ends-requires c κs = c .image-ends .ensures .canonical .bare
 
@@ -16,4 +13,4 @@ returns : tie.Need-returns
 returns c = subst⁻¹ (HullOf binary64 _) (c .from-ends .ensures) (c .before .image-ends .ensures)
 
 pub image-spec : {M : Type 1} → statement M
-image-spec = tie.close (tie.spec image-ends-requires from-ends-requires returns)
+image-spec = tie.close (tie.spec (search needs) from-ends-requires returns)

@@ -1,17 +1,9 @@
 -- `decorated::allowed_one` meets its contract: negation and the absolute value allow all.
 use mathlib.Core.Path.{refl}
+use borrow.Author.Needs.{needs}
 use Rattle.operations.proofs.NameLaws.{image-found, allows-one-named}
 use Rattle.operations.proofs.decorated.allowed_one.Statement.{statement}
 use Rattle.operations.proofs.decorated.allowed_one.Tie as tie
-
-enum-told : tie.Need-enum-told
-enum-told c = c .match .keys1
-
-enum-told-2 : tie.Need-enum-told-2
-enum-told-2 c = c .match .keys2
-
-enum-known-f : tie.Need-enum-known-f
-enum-known-f c = c .match .keys3
 
 allowed-requires : tie.Need-allowed-requires
 allowed-requires c κs =
@@ -29,12 +21,4 @@ returns-3 c = allows-one-named (c .before .before .f .given .1) _ _ _ (c .allowe
 
 pub allowed-one-spec : {M : Type 1} → statement M
 allowed-one-spec =
-    tie.close
-    (tie.spec
-    enum-told
-    enum-told-2
-    enum-known-f
-    allowed-requires
-    returns
-    returns-2
-    returns-3)
+    tie.close (tie.spec (search needs) (search needs) (search needs) allowed-requires returns returns-2 returns-3)

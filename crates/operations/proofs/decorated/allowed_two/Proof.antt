@@ -5,33 +5,6 @@ use Rattle.operations.proofs.NameLaws.{allows-two-named}
 use Rattle.operations.proofs.decorated.allowed_two.Statement.{statement}
 use Rattle.operations.proofs.decorated.allowed_two.Tie as tie
 
-enum-told : tie.Need-enum-told
-enum-told c = c .match .keys1
-
-enum-told-2 : tie.Need-enum-told-2
-enum-told-2 c = c .match .keys2
-
-enum-told-3 : tie.Need-enum-told-3
-enum-told-3 c = c .match .keys3
-
-enum-told-4 : tie.Need-enum-told-4
-enum-told-4 c = c .match .keys4
-
-divided-decoration-requires : tie.Need-divided-decoration-requires
-divided-decoration-requires c κs = search needs
-
-enum-told-5 : tie.Need-enum-told-5
-enum-told-5 c = c .match .keys5
-
-enum-told-6 : tie.Need-enum-told-6
-enum-told-6 c = c .match .keys6
-
-enum-told-7 : tie.Need-enum-told-7
-enum-told-7 c = c .match .keys7
-
-enum-told-8 : tie.Need-enum-told-8
-enum-told-8 c = c .match .keys8
-
 returns : tie.Need-returns
 returns c = allows-two-named (c .enum-told .given .1) _ _ (λ X. refl)
 
@@ -58,22 +31,6 @@ returns-8 c = allows-two-named (c .enum-told8 .given .1) _ _ (λ X. refl)
 
 pub allowed-two-spec : {M : Type 1} → statement M
 allowed-two-spec =
-    tie.close
-    (tie.spec
-    enum-told
-    enum-told-2
-    enum-told-3
-    enum-told-4
-    divided-decoration-requires
-    enum-told-5
-    enum-told-6
-    enum-told-7
-    enum-told-8
-    returns
-    returns-2
-    returns-3
-    returns-4
-    returns-5
-    returns-6
-    returns-7
+    tie.close (tie.spec (search needs) (search needs) (search needs) (search needs) (search needs) (search needs)
+    (search needs) (search needs) (search needs) returns returns-2 returns-3 returns-4 returns-5 returns-6 returns-7
     returns-8)

@@ -1,17 +1,9 @@
 -- `decorated::combine_dec` meets its contract: NaI gives NaI, and intervals the bare answer with its decoration.
+use borrow.Author.Needs.{needs}
 use Rattle.patterns.specs.Format.{binary64, infinity, quietNaN}
 use Rattle.operands.proofs.SortedLaws.{intervals, right-nai, right-interval}
 use Rattle.operations.proofs.decorated.combine_dec.Statement.{statement}
 use Rattle.operations.proofs.decorated.combine_dec.Tie as tie
-
-two-operands-requires : tie.Need-two-operands-requires
-two-operands-requires c κs = c .pre
-
-enum-told : tie.Need-enum-told
-enum-told c = c .match .keys1
-
-enum-known-d : tie.Need-enum-known-d
-enum-known-d c = c .match .keys2
 
 combine-requires : tie.Need-combine-requires
 combine-requires c κs = intervals (c .before .before .before .two-operands .ensures) (c .before .d .given .1) .bares
@@ -33,13 +25,5 @@ returns-2 c =
 
 pub combine-dec-spec : {M : Type 1} → statement M
 combine-dec-spec =
-    tie.close
-    (tie.spec
-    two-operands-requires
-    enum-told
-    enum-known-d
-    combine-requires
-    allowed-two-requires
-    decorate-requires
-    returns
-    returns-2)
+    tie.close (tie.spec (λ c κs. c .pre) (search needs) (search needs) combine-requires allowed-two-requires
+    decorate-requires returns returns-2)

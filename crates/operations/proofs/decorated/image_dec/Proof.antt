@@ -1,17 +1,9 @@
 -- `decorated::image_dec` meets its contract: NaI gives NaI, and an interval the bare answer with its decoration.
+use borrow.Author.Needs.{needs}
 use Rattle.patterns.specs.Format.{binary64, infinity, quietNaN}
 use Rattle.operands.proofs.SortedLaws.{intervals, right-nai, right-interval}
 use Rattle.operations.proofs.decorated.image_dec.Statement.{statement}
 use Rattle.operations.proofs.decorated.image_dec.Tie as tie
-
-one-operand-requires : tie.Need-one-operand-requires
-one-operand-requires c κs = c .pre
-
-enum-told : tie.Need-enum-told
-enum-told c = c .match .keys1
-
-enum-known-d : tie.Need-enum-known-d
-enum-known-d c = c .match .keys2
 
 image-requires : tie.Need-image-requires
 image-requires c κs = intervals (c .before .before .before .before .one-operand .ensures) (c .before .before .d .given .1) .bares
@@ -34,13 +26,5 @@ returns-2 c =
 
 pub image-dec-spec : {M : Type 1} → statement M
 image-dec-spec =
-    tie.close
-    (tie.spec
-    one-operand-requires
-    enum-told
-    enum-known-d
-    image-requires
-    allowed-one-requires
-    decorate-requires
-    returns
-    returns-2)
+    tie.close (tie.spec (λ c κs. c .pre) (search needs) (search needs) image-requires allowed-one-requires
+    decorate-requires returns returns-2)

@@ -7,9 +7,6 @@ use Rattle.operations.specs.Numbers.{asksOne, asksTwo, asksOverlap, asks
 use Rattle.operations.proofs.numbers.numbered.Statement.{statement}
 use Rattle.operations.proofs.numbers.numbered.Tie as tie
 
-binary-numbered-requires : tie.Need-binary-numbered-requires
-binary-numbered-requires c κs = search needs
-
 unary-numbered-requires : tie.Need-unary-numbered-requires
 unary-numbered-requires c κs =
     ⊎-elim (λ w. inl (w .keys1)) (λ w. inr (omega (arith, w .1 .left, w .2 .taken))) (c .match .came)
@@ -31,12 +28,4 @@ returns-5 c = asksNothing (λ q e. not-large q (omega (arith, e, c .if2 .left, c
 
 pub numbered-spec : {M : Type 1} → statement M
 numbered-spec =
-    tie.close
-    (tie.spec
-    binary-numbered-requires
-    unary-numbered-requires
-    returns
-    returns-2
-    returns-3
-    returns-4
-    returns-5)
+    tie.close (tie.spec (search needs) unary-numbered-requires returns returns-2 returns-3 returns-4 returns-5)

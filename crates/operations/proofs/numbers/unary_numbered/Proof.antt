@@ -4,27 +4,6 @@ use Rattle.operations.proofs.NumberLaws.{last-unary}
 use Rattle.operations.proofs.numbers.unary_numbered.Statement.{statement}
 use Rattle.operations.proofs.numbers.unary_numbered.Tie as tie
 
-returns : tie.Need-returns
-returns c = search needs
-
-returns-2 : tie.Need-returns-2
-returns-2 c = search needs
-
-returns-3 : tie.Need-returns-3
-returns-3 c = search needs
-
-returns-4 : tie.Need-returns-4
-returns-4 c = search needs
-
-returns-5 : tie.Need-returns-5
-returns-5 c = search needs
-
-returns-6 : tie.Need-returns-6
-returns-6 c = search needs
-
-returns-7 : tie.Need-returns-7
-returns-7 c = search needs
-
 returns-8 : tie.Need-returns-8
 returns-8 c =
     let r = c .match .rest in
@@ -32,13 +11,5 @@ returns-8 c =
 
 pub unary-numbered-spec : {M : Type 1} → statement M
 unary-numbered-spec =
-    tie.close
-    (tie.spec
-    returns
-    returns-2
-    returns-3
-    returns-4
-    returns-5
-    returns-6
-    returns-7
-    returns-8)
+    tie.close (tie.spec (search needs) (search needs) (search needs) (search needs) (search needs) (search needs)
+    (search needs) returns-8)

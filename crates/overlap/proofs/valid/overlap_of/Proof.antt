@@ -1,4 +1,5 @@
 -- `valid::overlap_of` meets its contract: EMPTY is told first, and the keys of the ends are ordered as the ends are.
+use borrow.Author.Needs.{needs}
 use Rattle.patterns.specs.Format.{binary64}
 use Rattle.flags.proofs.AnswerLaws.{said-yes, said-no}
 use Rattle.end_pairs.proofs.EmptyLaws.{not-empty}
@@ -6,12 +7,6 @@ use Rattle.overlap.specs.Conversions.{stateOf}
 use Rattle.overlap.proofs.EndKeys.{both-empty, first-empty, second-empty, neither-empty}
 use Rattle.overlap.proofs.valid.overlap_of.Statement.{statement}
 use Rattle.overlap.proofs.valid.overlap_of.Tie as tie
-
-is-empty-pair-requires : tie.Need-is-empty-pair-requires
-is-empty-pair-requires c κs = tt
-
-is-empty-pair-requires-2 : tie.Need-is-empty-pair-requires-2
-is-empty-pair-requires-2 c κs = tt
 
 returns : tie.Need-returns
 returns c =
@@ -23,30 +18,12 @@ returns-2 c =
     first-empty binary64 _ _ (said-yes (c .before .before .before .is-empty-pair .ensures) (c .before .before .if1 .taken))
     (not-empty binary64 (c .before .before .before .before .pre .1) (said-no (c .before .is-empty-pair2 .ensures) (c .if2 .left)))
 
-is-empty-pair-requires-3 : tie.Need-is-empty-pair-requires-3
-is-empty-pair-requires-3 c κs = tt
-
 returns-3 : tie.Need-returns-3
 returns-3 c =
     second-empty binary64 _ _
     (not-empty binary64 (c .before .before .before .before .pre .0)
     (said-no (c .before .before .before .is-empty-pair .ensures) (c .before .before .if1 .left)))
     (said-yes (c .before .is-empty-pair3 .ensures) (c .if3 .taken))
-
-key-requires : tie.Need-key-requires
-key-requires c κs = tt
-
-key-requires-2 : tie.Need-key-requires-2
-key-requires-2 c κs = tt
-
-key-requires-3 : tie.Need-key-requires-3
-key-requires-3 c κs = tt
-
-key-requires-4 : tie.Need-key-requires-4
-key-requires-4 c κs = tt
-
-compare-requires : tie.Need-compare-requires
-compare-requires c κs = tt
 
 returns-4 : tie.Need-returns-4
 returns-4 c =
@@ -62,6 +39,5 @@ returns-4 c =
 
 pub overlap-of-spec : {M : Type 1} → statement M
 overlap-of-spec =
-    tie.close
-    (tie.spec is-empty-pair-requires is-empty-pair-requires-2 returns returns-2 is-empty-pair-requires-3 returns-3 key-requires key-requires-2
-    key-requires-3 key-requires-4 compare-requires returns-4)
+    tie.close (tie.spec (search needs) (search needs) returns returns-2 (search needs) returns-3 (search needs)
+    (search needs) (search needs) (search needs) (search needs) returns-4)

@@ -1,19 +1,11 @@
 -- `valid::overlap_of_dec` meets its contract: NaI has no state, and intervals have that of the bare ones.
 use mathlib.Core.Path.{refl}
+use borrow.Author.Needs.{needs}
 use Rattle.meaning.specs.Overlap.{naiState, intervalState}
 use Rattle.operands.proofs.SortedLaws.{nai, intervals}
 use Rattle.overlap.specs.Conversions.{stateOf}
 use Rattle.overlap.proofs.valid.overlap_of_dec.Statement.{statement}
 use Rattle.overlap.proofs.valid.overlap_of_dec.Tie as tie
-
-two-operands-requires : tie.Need-two-operands-requires
-two-operands-requires c κs = c .pre
-
-enum-told : tie.Need-enum-told
-enum-told c = c .match .keys1
-
-enum-told-2 : tie.Need-enum-told-2
-enum-told-2 c = c .match .keys2
 
 overlap-of-requires : tie.Need-overlap-of-requires
 overlap-of-requires c κs = intervals (c .before .before .two-operands .ensures) (c .enum-told2 .given .1) .bares
@@ -28,4 +20,4 @@ returns-2 c =
 
 pub overlap-of-dec-spec : {M : Type 1} → statement M
 overlap-of-dec-spec =
-    tie.close (tie.spec two-operands-requires enum-told enum-told-2 overlap-of-requires returns returns-2)
+    tie.close (tie.spec (λ c κs. c .pre) (search needs) (search needs) overlap-of-requires returns returns-2)

@@ -32,21 +32,12 @@ module _ (m s w : ℕ) (short : m < 2 ^ w) (wide : w ≤ s) where
   nothing-brackets : (e : ℕ) (x : Bool) → Rebrackets m e x 0 (e + s) (x && eqb m 0)
   nothing-brackets e x = subst (λ (q : ℕ). Rebrackets m e x q (e + s) (x && eqb m 0)) nothing-left (cut-brackets m e s x (eqb m 0) all-dropped)
 
-add-exponent : tie.Need-add-exponent
-add-exponent c = search needs
-
 returns : tie.Need-returns
 returns c =
     let a = c .before .before .before .before .args .a in
     let s = c .before .before .before .before .args .shift in
     let short : a .significand < 2 ^ 64 = search needs in
     ((sym (nothing-left (a .significand) s 64 short (c .before .before .if1 .taken)), refl), nothing-brackets (a .significand) s 64 short (c .before .before .if1 .taken) (a .exponent) (a .exact))
-
-shr-kept : tie.Need-shr-kept
-shr-kept c = search needs
-
-shl-t9 : tie.Need-shl-t9
-shl-t9 c = search needs
 
 returns-2 : tie.Need-returns-2
 returns-2 c =
@@ -55,4 +46,4 @@ returns-2 c =
     ((refl, refl), cut-brackets (a .significand) (a .exponent) s (a .exact) _ (shifted-back (a .significand) s (2 ^ 64) (search needs)))
 
 pub cut-spec : {M : Type 1} → statement M
-cut-spec = tie.close (tie.spec add-exponent returns shr-kept shl-t9 returns-2)
+cut-spec = tie.close (tie.spec (search needs) returns (search needs) (search needs) returns-2)

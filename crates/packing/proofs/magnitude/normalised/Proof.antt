@@ -7,17 +7,8 @@ use Rattle.packing.proofs.WordLaws.{one-shifts}
 use Rattle.packing.proofs.magnitude.normalised.Statement.{statement}
 use Rattle.packing.proofs.magnitude.normalised.Tie as tie
 
-shl-if1 : tie.Need-shl-if1
-shl-if1 c = search needs
-
 returns : tie.Need-returns
 returns c = already (omega (arith, c .if1 .taken, one-shifts (c .before .before .pre .0)))
-
-stays-short-requires : tie.Need-stays-short-requires
-stays-short-requires c κs = search needs
-
-cast-t7 : tie.Need-cast-t7
-cast-t7 c = search needs
 
 shl-t8 : tie.Need-shl-t8
 shl-t8 c =
@@ -38,13 +29,5 @@ returns-3 c = c .raised .ensures
 
 pub normalised-spec : {M : Type 1} → statement M
 normalised-spec =
-    tie.close
-    (tie.spec
-    shl-if1
-    returns
-    stays-short-requires
-    cast-t7
-    shl-t8
-    returns-2
-    raised-requires
+    tie.close (tie.spec (search needs) returns (search needs) (search needs) shl-t8 returns-2 raised-requires
     returns-3)

@@ -58,14 +58,4 @@ returns c =
 
 pub raised-spec : {M : Type 1} → statement M
 raised-spec =
-    tie.close
-    (tie.spec
-    Inv-loop
-    μ-loop
-    shl-full
-    loop-holds
-    mul-significand
-    sub-exponent
-    loop-less
-    loop-again
-    returns)
+    tie.close (tie.spec Inv-loop μ-loop shl-full loop-holds mul-significand sub-exponent loop-less loop-again returns)

@@ -18,15 +18,6 @@ returns c =
     let u = start .args .u in
     denied (λ less. lt-irrefl _ (lt-of-lt-of-le less (worth-enough (start .args .frac) (u .exponent) (u .significand) (start .pre .1) (c .if1 .taken))))
 
-sub-result : tie.Need-sub-result
-sub-result c = search needs
-
-cast-result : tie.Need-cast-result
-cast-result c = search needs
-
-shl-result : tie.Need-shl-result
-shl-result c = search needs
-
 returns-2 : tie.Need-returns-2
 returns-2 c =
     let start = c .before .before .before .before in
@@ -37,4 +28,4 @@ returns-2 c =
     (answers-lt (u .significand) (2 ^ (frac - u .exponent)) (little .0) (λ le less. lt-irrefl _ (lt-of-lt-of-le (little .1 less) le)))
 
 pub stays-short-spec : {M : Type 1} → statement M
-stays-short-spec = tie.close (tie.spec returns sub-result cast-result shl-result returns-2)
+stays-short-spec = tie.close (tie.spec returns (search needs) (search needs) (search needs) returns-2)

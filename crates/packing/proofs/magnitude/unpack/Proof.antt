@@ -26,26 +26,15 @@ module _ (frac b : ℕ) (narrow : frac ≤ 52) (coded : b / 2 ^ frac < 2 ^ 11) (
       subst (λ (k : ℕ). Unpacks frac b (b - k) (b / 2 ^ frac - 1)) (sym shifts)
       (unpacks-normal frac b (b - (b / 2 ^ frac - 1) * 2 ^ frac) (b / 2 ^ frac - 1) (omega arith) (omega (arith, within)))
 
-shr-field : tie.Need-shr-field
-shr-field c = search needs
-
 returns : tie.Need-returns
 returns c = unpacks-subnormal (c .before .args .frac) (c .before .args .b) (c .if1 .taken)
 
-sub-exponent : tie.Need-sub-exponent
-sub-exponent c = search needs
-
-shl-t7 : tie.Need-shl-t7
-shl-t7 c = search needs
-
 sub-t8 : tie.Need-sub-t8
 sub-t8 c = within-word (c .before .args .frac) (c .before .args .b) (c .before .pre .0) (c .before .pre .1) (c .if1 .left)
-
-cast-t9 : tie.Need-cast-t9
-cast-t9 c = search needs
 
 returns-2 : tie.Need-returns-2
 returns-2 c = unpacked (c .before .args .frac) (c .before .args .b) (c .before .pre .0) (c .before .pre .1) (c .if1 .left)
 
 pub unpack-spec : {M : Type 1} → statement M
-unpack-spec = tie.close (tie.spec shr-field returns sub-exponent shl-t7 sub-t8 cast-t9 returns-2)
+unpack-spec =
+    tie.close (tie.spec (search needs) returns (search needs) (search needs) sub-t8 (search needs) returns-2)

@@ -15,9 +15,6 @@ pick-most most pattern word same le = omega arith
 pick-pattern : (most pattern word : ℕ) → word ≡ pattern → pattern ≤ most → word ≡ min pattern most
 pick-pattern most pattern word same le = omega arith
 
-shl-most : tie.Need-shl-most
-shl-most c = search needs
-
 sub-most : tie.Need-sub-most
 sub-most c =
     let (narrow, some, coded, one, short) = c .pre in
@@ -29,9 +26,6 @@ returns c =
     let (narrow, some, coded, one, short) = c .before .pre in
     let more : a .codes * 2 ^ a .frac ≤ a .exponent * 2 ^ a .frac = mul-le-mul-right (2 ^ a .frac) (c .if1 .taken) in
     pick-most _ _ _ (ap (λ (k : ℕ). k - a .short) (field-shifts narrow coded)) (omega arith)
-
-shl-pattern : tie.Need-shl-pattern
-shl-pattern c = search needs
 
 add-pattern : tie.Need-add-pattern
 add-pattern c =
@@ -56,5 +50,4 @@ returns-3 c =
     (omega (arith, c .if2 .left, field-shifts narrow coded, field-shifts narrow below))
 
 pub capped-spec : {M : Type 1} → statement M
-capped-spec =
-    tie.close (tie.spec shl-most sub-most returns shl-pattern add-pattern returns-2 returns-3)
+capped-spec = tie.close (tie.spec (search needs) sub-most returns (search needs) add-pattern returns-2 returns-3)

@@ -32,15 +32,6 @@ shorter frac k m few high = record {
   full = inl refl;
 }
 
-add-room : tie.Need-add-room
-add-room c = search needs
-
-sub-room : tie.Need-sub-room
-sub-room c = search needs
-
-sub-result : tie.Need-sub-result
-sub-result c = search needs
-
 returns : tie.Need-returns
 returns c =
     let frac = c .before .args .frac in
@@ -59,4 +50,4 @@ returns-2 c =
     shorter (c .before .args .frac) (length .0) m (omega (arith, length .1)) (length .2)
 
 pub excess-spec : {M : Type 1} → statement M
-excess-spec = tie.close (tie.spec add-room sub-room sub-result returns returns-2)
+excess-spec = tie.close (tie.spec (search needs) (search needs) (search needs) returns returns-2)

@@ -17,12 +17,6 @@ still-fine frac m e s dropped fine = ⊎-elim unchanged inr (dropped .full)
     unchanged none =
         subst₂ (FineEnough frac) (sym (div-one m) ∙ ap (λ (k : ℕ). m / 2 ^ k) (sym none)) (omega arith) fine
 
-excess-requires : tie.Need-excess-requires
-excess-requires c κs = search needs
-
-cut-requires : tie.Need-cut-requires
-cut-requires c κs = search needs
-
 returns : tie.Need-returns
 returns c =
     let a = c .before .before .args in
@@ -36,4 +30,4 @@ returns c =
     }
 
 pub fitted-spec : {M : Type 1} → statement M
-fitted-spec = tie.close (tie.spec excess-requires cut-requires returns)
+fitted-spec = tie.close (tie.spec (search needs) (search needs) returns)

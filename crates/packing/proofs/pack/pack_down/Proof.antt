@@ -4,12 +4,6 @@ use Rattle.packing.proofs.PackLaws.{packs-down}
 use Rattle.packing.proofs.pack.pack_down.Statement.{statement}
 use Rattle.packing.proofs.pack.pack_down.Tie as tie
 
-fitted-requires : tie.Need-fitted-requires
-fitted-requires c κs = search needs
-
-capped-requires : tie.Need-capped-requires
-capped-requires c κs = search needs
-
 returns : tie.Need-returns
 returns c =
     let fitted = c .before .fitted .ensures in
@@ -17,4 +11,4 @@ returns c =
     packs-down (fitted .fine) (fitted .short) (c .capped .ensures) F fracs codess n d some (fitted .brackets n d some b)
 
 pub pack-down-spec : {M : Type 1} → statement M
-pack-down-spec = tie.close (tie.spec fitted-requires capped-requires returns)
+pack-down-spec = tie.close (tie.spec (search needs) (search needs) returns)

@@ -7,12 +7,6 @@ use Rattle.packing.proofs.WordLaws.{significand-below}
 use Rattle.packing.proofs.pack.pack_up.Statement.{statement}
 use Rattle.packing.proofs.pack.pack_up.Tie as tie
 
-fitted-requires : tie.Need-fitted-requires
-fitted-requires c κs = search needs
-
-capped-requires : tie.Need-capped-requires
-capped-requires c κs = search needs
-
 returns : tie.Need-returns
 returns c =
     let fitted = c .before .before .fitted .ensures in
@@ -22,9 +16,6 @@ returns c =
 add-capped : tie.Need-add-capped
 add-capped c = record { fits = omega (arith, significand-below (c .before .before .before .pre .narrow) (le-of-lt (c .before .before .fitted .ensures .short))) }
 
-capped-requires-2 : tie.Need-capped-requires-2
-capped-requires-2 c κs = search needs
-
 returns-2 : tie.Need-returns-2
 returns-2 c =
     let fitted = c .before .before .before .fitted .ensures in
@@ -32,6 +23,4 @@ returns-2 c =
     packs-inexact (fitted .fine) (fitted .short) (c .before .before .if1 .left) (c .capped2 .ensures) F fracs codess n d some (fitted .brackets n d some b)
 
 pub pack-up-spec : {M : Type 1} → statement M
-pack-up-spec =
-    tie.close
-    (tie.spec fitted-requires capped-requires returns add-capped capped-requires-2 returns-2)
+pack-up-spec = tie.close (tie.spec (search needs) (search needs) returns add-capped (search needs) returns-2)

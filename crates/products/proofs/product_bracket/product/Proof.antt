@@ -9,27 +9,6 @@ use Rattle.products.proofs.ProductScale.{upper-large, product-cut, shif
 use Rattle.products.proofs.product_bracket.product.Statement.{statement}
 use Rattle.products.proofs.product_bracket.product.Tie as tie
 
-cast-multiply : tie.Need-cast-multiply
-cast-multiply c = search needs
-
-shl-multiply : tie.Need-shl-multiply
-shl-multiply c = search needs
-
-cast-multiply-2 : tie.Need-cast-multiply-2
-cast-multiply-2 c = search needs
-
-shl-multiply-2 : tie.Need-shl-multiply-2
-shl-multiply-2 c = search needs
-
-multiply-requires : tie.Need-multiply-requires
-multiply-requires c κs = search needs
-
-add-difference : tie.Need-add-difference
-add-difference c = search needs
-
-difference-requires : tie.Need-difference-requires
-difference-requires c κs = search needs
-
 in-units-requires : tie.Need-in-units-requires
 in-units-requires c κs =
     let p = c .before .before .before .before .multiply in
@@ -56,14 +35,5 @@ returns c =
 
 pub product-spec : {M : Type 1} → statement M
 product-spec =
-    tie.close
-    (tie.spec
-    cast-multiply
-    shl-multiply
-    cast-multiply-2
-    shl-multiply-2
-    multiply-requires
-    add-difference
-    difference-requires
-    in-units-requires
-    returns)
+    tie.close (tie.spec (search needs) (search needs) (search needs) (search needs) (search needs) (search needs)
+    (search needs) in-units-requires returns)

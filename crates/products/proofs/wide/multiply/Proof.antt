@@ -6,27 +6,6 @@ use Rattle.products.proofs.Limbs.{limbs-product, by-limbs}
 use Rattle.products.proofs.wide.multiply.Statement.{statement}
 use Rattle.products.proofs.wide.multiply.Tie as tie
 
-low-limb-requires : tie.Need-low-limb-requires
-low-limb-requires c κs = search needs
-
-high-limb-requires : tie.Need-high-limb-requires
-high-limb-requires c κs = search needs
-
-low-limb-requires-2 : tie.Need-low-limb-requires-2
-low-limb-requires-2 c κs = search needs
-
-high-limb-requires-2 : tie.Need-high-limb-requires-2
-high-limb-requires-2 c κs = search needs
-
-times-requires : tie.Need-times-requires
-times-requires c κs = search needs
-
-times-requires-2 : tie.Need-times-requires-2
-times-requires-2 c κs = search needs
-
-times-requires-3 : tie.Need-times-requires-3
-times-requires-3 c κs = search needs
-
 add-columns : tie.Need-add-columns
 add-columns c =
     let at = c .before .before .before in
@@ -35,9 +14,6 @@ add-columns c =
     let b0 = at .before .low-limb2 .result in
     let b1 = at .high-limb2 .result in
     omega (arith, limbs-product (2 ^ 31) (2 ^ 32) {a = a1} {b = b0} (search needs) (search needs), limbs-product (2 ^ 32) (2 ^ 31) {a = a0} {b = b1} (search needs) (search needs))
-
-times-requires-4 : tie.Need-times-requires-4
-times-requires-4 c κs = search needs
 
 columns-requires : tie.Need-columns-requires
 columns-requires c κs =
@@ -55,16 +31,5 @@ returns c =
 
 pub multiply-spec : {M : Type 1} → statement M
 multiply-spec =
-    tie.close
-    (tie.spec
-    low-limb-requires
-    high-limb-requires
-    low-limb-requires-2
-    high-limb-requires-2
-    times-requires
-    times-requires-2
-    times-requires-3
-    add-columns
-    times-requires-4
-    columns-requires
-    returns)
+    tie.close (tie.spec (search needs) (search needs) (search needs) (search needs) (search needs) (search needs)
+    (search needs) add-columns (search needs) columns-requires returns)

@@ -9,8 +9,5 @@ use Rattle.products.proofs.wide.times.Tie as tie
 mul-result : tie.Need-mul-result
 mul-result c = omega (arith, limbs-product (2 ^ 32) (2 ^ 32) {a = c .args .a} {b = c .args .b} (search needs) (search needs))
 
-returns : tie.Need-returns
-returns c = search needs
-
 pub times-spec : {M : Type 1} → statement M
-times-spec = tie.close (tie.spec mul-result returns)
+times-spec = tie.close (tie.spec mul-result (search needs))

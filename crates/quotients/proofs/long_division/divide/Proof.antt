@@ -7,15 +7,6 @@ use Rattle.quotients.proofs.Digits.{quotient-large}
 use Rattle.quotients.proofs.long_division.divide.Statement.{statement}
 use Rattle.quotients.proofs.long_division.divide.Tie as tie
 
-turn-requires : tie.Need-turn-requires
-turn-requires c κs = search needs
-
-turn-requires-2 : tie.Need-turn-requires-2
-turn-requires-2 c κs = search needs
-
-settled-requires : tie.Need-settled-requires
-settled-requires c κs = search needs
-
 returns : tie.Need-returns
 returns c =
     let a = c .before .before .before .args .dividend in
@@ -26,4 +17,4 @@ returns c =
     (whole, search needs, quotient-large a b q r (search needs) (search needs) (search needs) whole)
 
 pub divide-spec : {M : Type 1} → statement M
-divide-spec = tie.close (tie.spec turn-requires turn-requires-2 settled-requires returns)
+divide-spec = tie.close (tie.spec (search needs) (search needs) (search needs) returns)

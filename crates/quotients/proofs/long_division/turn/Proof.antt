@@ -5,50 +5,8 @@ use Rattle.quotients.proofs.Digits.{turned}
 use Rattle.quotients.proofs.long_division.turn.Statement.{statement}
 use Rattle.quotients.proofs.long_division.turn.Tie as tie
 
-cast-upper : tie.Need-cast-upper
-cast-upper c = search needs
-
-shr-upper : tie.Need-shr-upper
-shr-upper c = search needs
-
-add-upper : tie.Need-add-upper
-add-upper c = search needs
-
-cast-added : tie.Need-cast-added
-cast-added c = search needs
-
-shl-added : tie.Need-shl-added
-shl-added c = search needs
-
-sub-added : tie.Need-sub-added
-sub-added c = search needs
-
-cast-wide : tie.Need-cast-wide
-cast-wide c = search needs
-
-shl-wide : tie.Need-shl-wide
-shl-wide c = search needs
-
-div-digit : tie.Need-div-digit
-div-digit c = search needs
-
-cast-t8 : tie.Need-cast-t8
-cast-t8 c = search needs
-
-shl-t7 : tie.Need-shl-t7
-shl-t7 c = search needs
-
 add-t9 : tie.Need-add-t9
 add-t9 c = omega (arith, turned (c .before .before .args .divisor) (c .before .before .args .p .rest) (search needs) (search needs) .digit)
-
-rem-t10 : tie.Need-rem-t10
-rem-t10 c = search needs
-
-cast-t11 : tie.Need-cast-t11
-cast-t11 c = search needs
-
-shl-t12 : tie.Need-shl-t12
-shl-t12 c = search needs
 
 mul-t13 : tie.Need-mul-t13
 mul-t13 c = omega (arith, turned (c .before .before .args .divisor) (c .before .before .args .p .rest) (search needs) (search needs) .back)
@@ -65,23 +23,6 @@ returns c =
 
 pub turn-spec : {M : Type 1} → statement M
 turn-spec =
-    tie.close
-    (tie.spec
-    cast-upper
-    shr-upper
-    add-upper
-    cast-added
-    shl-added
-    sub-added
-    cast-wide
-    shl-wide
-    div-digit
-    cast-t8
-    shl-t7
-    add-t9
-    rem-t10
-    cast-t11
-    shl-t12
-    mul-t13
-    add-t14
-    returns)
+    tie.close (tie.spec (search needs) (search needs) (search needs) (search needs) (search needs) (search needs)
+    (search needs) (search needs) (search needs) (search needs) (search needs) add-t9 (search needs) (search needs)
+    (search needs) mul-t13 add-t14 returns)

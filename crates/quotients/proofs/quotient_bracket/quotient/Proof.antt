@@ -10,18 +10,6 @@ use Rattle.quotients.proofs.QuotientScale.{quotient-cut}
 use Rattle.quotients.proofs.quotient_bracket.quotient.Statement.{statement}
 use Rattle.quotients.proofs.quotient_bracket.quotient.Tie as tie
 
-divide-requires : tie.Need-divide-requires
-divide-requires c κs = search needs
-
-add-difference : tie.Need-add-difference
-add-difference c = search needs
-
-difference-requires : tie.Need-difference-requires
-difference-requires c κs = search needs
-
-in-units-requires : tie.Need-in-units-requires
-in-units-requires c κs = search needs
-
 returns : tie.Need-returns
 returns c =
     let start = c .before .before .before .before .before in
@@ -41,5 +29,4 @@ returns c =
     )
 
 pub quotient-spec : {M : Type 1} → statement M
-quotient-spec =
-    tie.close (tie.spec divide-requires add-difference difference-requires in-units-requires returns)
+quotient-spec = tie.close (tie.spec (search needs) (search needs) (search needs) (search needs) returns)

@@ -69,18 +69,5 @@ returns c =
 
 pub count-spec : {M : Type 1} → statement M
 count-spec =
-    tie.close
-    (tie.spec
-    Inv-loop
-    μ-loop
-    number-requires
-    loop-holds
-    mul-at
-    shared-slice-read-if1
-    says-requires
-    add-right
-    add-wrong
-    add-k
-    loop-less
-    loop-again
-    returns)
+    tie.close (tie.spec Inv-loop μ-loop number-requires loop-holds mul-at shared-slice-read-if1 says-requires
+    add-right add-wrong add-k loop-less loop-again returns)

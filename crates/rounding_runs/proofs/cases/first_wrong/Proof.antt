@@ -49,15 +49,5 @@ returns-2 c =
 
 pub first-wrong-spec : {M : Type 1} → statement M
 first-wrong-spec =
-    tie.close
-    (tie.spec
-    Inv-loop
-    μ-loop
-    loop-holds
-    mul-is-right
-    is-right-requires
-    returns
-    add-k
-    loop-less
-    loop-again
+    tie.close (tie.spec Inv-loop μ-loop loop-holds mul-is-right is-right-requires returns add-k loop-less loop-again
     returns-2)

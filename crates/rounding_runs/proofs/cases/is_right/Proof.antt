@@ -9,20 +9,11 @@ use Rattle.rounding_runs.proofs.OperationCases.{by-operation}
 use Rattle.rounding_runs.proofs.cases.is_right.Statement.{statement}
 use Rattle.rounding_runs.proofs.cases.is_right.Tie as tie
 
-is-right-of-requires : tie.Need-is-right-of-requires
-is-right-of-requires c κs = search needs
-
 returns : tie.Need-returns
 returns c = affirmed (record { operation = Sum; right = said-yes (c .before .is-right-of .ensures) (c .if1 .taken) })
 
-is-right-of-requires-2 : tie.Need-is-right-of-requires-2
-is-right-of-requires-2 c κs = search needs
-
 returns-2 : tie.Need-returns-2
 returns-2 c = affirmed (record { operation = Product; right = said-yes (c .before .is-right-of2 .ensures) (c .if2 .taken) })
-
-is-right-of-requires-3 : tie.Need-is-right-of-requires-3
-is-right-of-requires-3 c κs = search needs
 
 returns-3 : tie.Need-returns-3
 returns-3 c =
@@ -37,12 +28,4 @@ returns-3 c =
     (c .is-right-of3 .ensures)
 
 pub is-right-spec : {M : Type 1} → statement M
-is-right-spec =
-    tie.close
-    (tie.spec
-    is-right-of-requires
-    returns
-    is-right-of-requires-2
-    returns-2
-    is-right-of-requires-3
-    returns-3)
+is-right-spec = tie.close (tie.spec (search needs) returns (search needs) returns-2 (search needs) returns-3)

@@ -6,15 +6,6 @@ use Rattle.flags.proofs.AnswerLaws.{answers-iff}
 use Rattle.rounding_runs.proofs.cases.is_right_of.Statement.{statement}
 use Rattle.rounding_runs.proofs.cases.is_right_of.Tie as tie
 
-shared-slice-read-if1 : tie.Need-shared-slice-read-if1
-shared-slice-read-if1 c = search needs
-
-number-requires : tie.Need-number-requires
-number-requires c κs = search needs
-
-says-requires : tie.Need-says-requires
-says-requires c κs = search needs
-
 returns : tie.Need-returns
 returns c =
     let of = c .before .if1 .taken ∙ c .before .before .number .ensures in
@@ -24,5 +15,4 @@ returns-2 : tie.Need-returns-2
 returns-2 c = denied (λ right. c .if1 .left (right .of ∙ sym (c .before .number .ensures)))
 
 pub is-right-of-spec : {M : Type 1} → statement M
-is-right-of-spec =
-    tie.close (tie.spec shared-slice-read-if1 number-requires says-requires returns returns-2)
+is-right-of-spec = tie.close (tie.spec (search needs) (search needs) (search needs) returns returns-2)

@@ -9,9 +9,6 @@ use Rattle.flags.proofs.AnswerLaws.{answers-eq, said-yes, said-no}
 use Rattle.rounding_runs.proofs.cases.right.Statement.{statement}
 use Rattle.rounding_runs.proofs.cases.right.Tie as tie
 
-takes-requires : tie.Need-takes-requires
-takes-requires c κs = search needs
-
 rounded-requires : tie.Need-rounded-requires
 rounded-requires c κs = said-yes (c .before .takes .ensures) (c .if1 .taken)
 
@@ -25,4 +22,4 @@ returns-2 : tie.Need-returns-2
 returns-2 c = denied (λ right. said-no (c .before .takes .ensures) (c .if1 .left) (right .takes))
 
 pub right-spec : {M : Type 1} → statement M
-right-spec = tie.close (tie.spec takes-requires rounded-requires returns returns-2)
+right-spec = tie.close (tie.spec (search needs) rounded-requires returns returns-2)

@@ -6,21 +6,6 @@ use Rattle.rounding_runs.specs.declared.roundings.Operation.{Operation}
 use Rattle.rounding_runs.proofs.roundings.rounded.Statement.{statement}
 use Rattle.rounding_runs.proofs.roundings.rounded.Tie as tie
 
-enum-told : tie.Need-enum-told
-enum-told c = search needs
-
-enum-told-2 : tie.Need-enum-told-2
-enum-told-2 c = search needs
-
-enum-told-3 : tie.Need-enum-told-3
-enum-told-3 c = search needs
-
-add-ru-requires : tie.Need-add-ru-requires
-add-ru-requires c κs = search needs
-
-mul-ru-requires : tie.Need-mul-ru-requires
-mul-ru-requires c κs = search needs
-
 div-ru-requires : tie.Need-div-ru-requires
 div-ru-requires c κs =
     let takes = c .before .before .pre in
@@ -37,14 +22,5 @@ returns-3 c = rw (c .before .enum-told3 .given .1) (c .div-ru .ensures)
 
 pub rounded-spec : {M : Type 1} → statement M
 rounded-spec =
-    tie.close
-    (tie.spec
-    enum-told
-    add-ru-requires
-    enum-told-2
-    mul-ru-requires
-    enum-told-3
-    div-ru-requires
-    returns
-    returns-2
-    returns-3)
+    tie.close (tie.spec (search needs) (search needs) (search needs) (search needs) (search needs) div-ru-requires
+    returns returns-2 returns-3)

@@ -6,20 +6,11 @@ use Rattle.flags.proofs.AnswerLaws.{answers-iff, said-yes, said-no}
 use Rattle.rounding_runs.proofs.roundings.takes.Statement.{statement}
 use Rattle.rounding_runs.proofs.roundings.takes.Tie as tie
 
-is-finite-requires : tie.Need-is-finite-requires
-is-finite-requires c κs = search needs
-
 returns : tie.Need-returns
 returns c = denied (λ takes. said-no (c .before .is-finite .ensures) (not-true _ (c .if1 .taken)) (takes .first))
 
-is-finite-requires-2 : tie.Need-is-finite-requires-2
-is-finite-requires-2 c κs = search needs
-
 returns-2 : tie.Need-returns-2
 returns-2 c = denied (λ takes. said-no (c .before .is-finite2 .ensures) (not-true _ (c .if2 .taken)) (takes .second))
-
-takes-second-requires : tie.Need-takes-second-requires
-takes-second-requires c κs = search needs
 
 returns-3 : tie.Need-returns-3
 returns-3 c =
@@ -28,12 +19,4 @@ returns-3 c =
     answers-iff (λ divisor. record { first = first; second = second; divisor = divisor }) (λ takes. takes .divisor) (c .takes-second .ensures)
 
 pub takes-spec : {M : Type 1} → statement M
-takes-spec =
-    tie.close
-    (tie.spec
-    is-finite-requires
-    returns
-    is-finite-requires-2
-    returns-2
-    takes-second-requires
-    returns-3)
+takes-spec = tie.close (tie.spec (search needs) returns (search needs) returns-2 (search needs) returns-3)

@@ -9,15 +9,6 @@ use Rattle.flags.proofs.AnswerLaws.{answers-eq, answers-not}
 use Rattle.rounding_runs.proofs.roundings.takes_second.Statement.{statement}
 use Rattle.rounding_runs.proofs.roundings.takes_second.Tie as tie
 
-enum-told : tie.Need-enum-told
-enum-told c = search needs
-
-enum-told-2 : tie.Need-enum-told-2
-enum-told-2 c = search needs
-
-enum-told-3 : tie.Need-enum-told-3
-enum-told-3 c = search needs
-
 returns : tie.Need-returns
 returns c = rw (c .enum-told .given .1) (affirmed tt)
 
@@ -32,4 +23,4 @@ returns-3 c =
     (answers-eq _ _ (λ none. ap (value 52) none ∙ value-zero 52) (λ some worth. some (value-injective 52 (worth ∙ sym (value-zero 52))))))
 
 pub takes-second-spec : {M : Type 1} → statement M
-takes-second-spec = tie.close (tie.spec enum-told enum-told-2 enum-told-3 returns returns-2 returns-3)
+takes-second-spec = tie.close (tie.spec (search needs) (search needs) (search needs) returns returns-2 returns-3)

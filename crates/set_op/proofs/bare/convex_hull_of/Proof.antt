@@ -1,4 +1,5 @@
 -- `bare::convex_hull_of` meets its contract: EMPTY adds nothing to the other operand.
+use borrow.Author.Needs.{needs}
 use Rattle.patterns.specs.Format.{binary64}
 use Rattle.flags.proofs.AnswerLaws.{said-yes, said-no}
 use Rattle.end_pairs.proofs.EmptyLaws.{not-empty}
@@ -6,17 +7,11 @@ use Rattle.set_op.proofs.SetOperations.{hull-first, hull-second}
 use Rattle.set_op.proofs.bare.convex_hull_of.Statement.{statement}
 use Rattle.set_op.proofs.bare.convex_hull_of.Tie as tie
 
-is-empty-pair-requires : tie.Need-is-empty-pair-requires
-is-empty-pair-requires c κs = tt
-
 canonical-requires : tie.Need-canonical-requires
 canonical-requires c κs = c .before .before .pre .1
 
 returns : tie.Need-returns
 returns c = hull-second binary64 _ _ (said-yes (c .before .before .is-empty-pair .ensures) (c .before .if1 .taken)) (c .canonical .ensures)
-
-is-empty-pair-requires-2 : tie.Need-is-empty-pair-requires-2
-is-empty-pair-requires-2 c κs = tt
 
 canonical-requires-2 : tie.Need-canonical-requires-2
 canonical-requires-2 c κs = c .before .before .before .before .pre .0
@@ -36,5 +31,5 @@ returns-3 c = c .convex-hull-of-spans .ensures
 
 pub convex-hull-of-spec : {M : Type 1} → statement M
 convex-hull-of-spec =
-    tie.close
-    (tie.spec is-empty-pair-requires canonical-requires returns is-empty-pair-requires-2 canonical-requires-2 returns-2 convex-hull-of-spans-requires returns-3)
+    tie.close (tie.spec (search needs) canonical-requires returns (search needs) canonical-requires-2 returns-2
+    convex-hull-of-spans-requires returns-3)

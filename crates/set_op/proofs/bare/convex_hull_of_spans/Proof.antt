@@ -1,16 +1,11 @@
 -- `bare::convex_hull_of_spans` meets its contract: the chosen ends are the true bounds.
 use mathlib.Core.Logic.{inl}
+use borrow.Author.Needs.{needs}
 use Rattle.patterns.specs.Format.{binary64}
 use Rattle.set_op.proofs.TrueEnds.{span-of, exact-proper, exact-answer}
 use Rattle.set_op.proofs.SetOperations.{hull-exact}
 use Rattle.set_op.proofs.bare.convex_hull_of_spans.Statement.{statement}
 use Rattle.set_op.proofs.bare.convex_hull_of_spans.Tie as tie
-
-lesser-requires : tie.Need-lesser-requires
-lesser-requires c κs = tt
-
-greater-requires : tie.Need-greater-requires
-greater-requires c κs = tt
 
 canonical-requires : tie.Need-canonical-requires
 canonical-requires c κs =
@@ -25,4 +20,4 @@ returns c =
     (c .canonical .ensures)
 
 pub convex-hull-of-spans-spec : {M : Type 1} → statement M
-convex-hull-of-spans-spec = tie.close (tie.spec lesser-requires greater-requires canonical-requires returns)
+convex-hull-of-spans-spec = tie.close (tie.spec (search needs) (search needs) canonical-requires returns)

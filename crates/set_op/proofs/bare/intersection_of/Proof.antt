@@ -1,4 +1,5 @@
 -- `bare::intersection_of` meets its contract: nothing is common to EMPTY and another operand.
+use borrow.Author.Needs.{needs}
 use Rattle.patterns.specs.Format.{binary64, infinity, signBit}
 use Rattle.meaning.specs.Pairs.{minusInfinity}
 use Rattle.flags.proofs.AnswerLaws.{said-yes, said-no}
@@ -6,9 +7,6 @@ use Rattle.end_pairs.proofs.EmptyLaws.{neither-empty}
 use Rattle.set_op.proofs.SetOperations.{intersection-empty}
 use Rattle.set_op.proofs.bare.intersection_of.Statement.{statement}
 use Rattle.set_op.proofs.bare.intersection_of.Tie as tie
-
-either-empty-requires : tie.Need-either-empty-requires
-either-empty-requires c κs = tt
 
 returns : tie.Need-returns
 unfolding infinity signBit minusInfinity
@@ -21,5 +19,4 @@ returns-2 : tie.Need-returns-2
 returns-2 c = c .intersection-of-spans .ensures
 
 pub intersection-of-spec : {M : Type 1} → statement M
-intersection-of-spec =
-    tie.close (tie.spec either-empty-requires returns intersection-of-spans-requires returns-2)
+intersection-of-spec = tie.close (tie.spec (search needs) returns intersection-of-spans-requires returns-2)

@@ -1,5 +1,6 @@
 -- `bare::intersection_of_spans` meets its contract: the chosen ends are the true bounds, or nothing is common.
 use mathlib.Core.Logic.{inl}
+use borrow.Author.Needs.{needs}
 use Rattle.patterns.specs.Format.{binary64, infinity, signBit}
 use Rattle.meaning.specs.Pairs.{minusInfinity}
 use Rattle.meaning.proofs.PatternHull.{hull-of-none}
@@ -8,15 +9,6 @@ use Rattle.set_op.proofs.TrueEnds.{span-of, exact-proper, exact-answer}
 use Rattle.set_op.proofs.SetOperations.{intersection-exact, intersection-none}
 use Rattle.set_op.proofs.bare.intersection_of_spans.Statement.{statement}
 use Rattle.set_op.proofs.bare.intersection_of_spans.Tie as tie
-
-greater-requires : tie.Need-greater-requires
-greater-requires c κs = tt
-
-lesser-requires : tie.Need-lesser-requires
-lesser-requires c κs = tt
-
-less-or-equal-requires : tie.Need-less-or-equal-requires
-less-or-equal-requires c κs = tt
 
 canonical-requires : tie.Need-canonical-requires
 canonical-requires c κs =
@@ -47,4 +39,4 @@ returns-2 c =
 
 pub intersection-of-spans-spec : {M : Type 1} → statement M
 intersection-of-spans-spec =
-    tie.close (tie.spec greater-requires lesser-requires less-or-equal-requires canonical-requires returns returns-2)
+    tie.close (tie.spec (search needs) (search needs) (search needs) canonical-requires returns returns-2)

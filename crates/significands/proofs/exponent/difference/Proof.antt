@@ -7,12 +7,6 @@ use Rattle.significands.proofs.SignedExponents.{difference-small, diffe
 use Rattle.significands.proofs.exponent.difference.Statement.{statement}
 use Rattle.significands.proofs.exponent.difference.Tie as tie
 
-cast-result : tie.Need-cast-result
-cast-result c = search needs
-
-cast-result-2 : tie.Need-cast-result-2
-cast-result-2 c = search needs
-
 sub-result : tie.Need-sub-result
 sub-result c = difference-fits (c .args .over) (c .args .under) (c .pre .0) (c .pre .1)
 
@@ -22,4 +16,4 @@ returns c =
     (read, subst (λ (z : ℤ). natAbs z < 2 ^ 13) (sym read) (difference-small (c .args .over) (c .args .under) (c .pre .0) (c .pre .1)))
 
 pub difference-spec : {M : Type 1} → statement M
-difference-spec = tie.close (tie.spec cast-result cast-result-2 sub-result returns)
+difference-spec = tie.close (tie.spec (search needs) (search needs) sub-result returns)

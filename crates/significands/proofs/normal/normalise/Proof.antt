@@ -11,9 +11,6 @@ unpack-requires : tie.Need-unpack-requires
 unfolding infinity
 unpack-requires c κs = omega arith
 
-add-t3 : tie.Need-add-t3
-add-t3 c = search needs
-
 normalised-requires : tie.Need-normalised-requires
 normalised-requires c κs = (search needs, unpacked-positive (c .before .unpack .ensures) (c .before .before .pre .0))
 
@@ -26,4 +23,4 @@ returns c =
     (normal-full some near u (c .normalised .ensures), normal-worth some near u (c .normalised .ensures))
 
 pub normalise-spec : {M : Type 1} → statement M
-normalise-spec = tie.close (tie.spec unpack-requires add-t3 normalised-requires returns)
+normalise-spec = tie.close (tie.spec unpack-requires (search needs) normalised-requires returns)

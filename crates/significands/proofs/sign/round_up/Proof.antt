@@ -7,9 +7,6 @@ use Rattle.significands.proofs.Signs.{rounded-positive, rounded-zero, s
 use Rattle.significands.proofs.sign.round_up.Statement.{statement}
 use Rattle.significands.proofs.sign.round_up.Tie as tie
 
-toward-zero-requires : tie.Need-toward-zero-requires
-toward-zero-requires c κs = search needs
-
 returns : tie.Need-returns
 returns c n d some b =
     rounded-zero binary64 (c .before .before .if1 .taken) (c .if2 .taken) (c .before .toward-zero .ensures binary64 refl refl n d some b)
@@ -18,12 +15,8 @@ returns-2 : tie.Need-returns-2
 returns-2 c n d some b =
     sign-set (c .before .before .if1 .taken) (pos-of-ne-zero (c .if2 .left)) (c .before .toward-zero .ensures binary64 refl refl n d some b)
 
-away-from-zero-requires : tie.Need-away-from-zero-requires
-away-from-zero-requires c κs = search needs
-
 returns-3 : tie.Need-returns-3
 returns-3 c n d some b = rounded-positive binary64 (c .before .if1 .left) some (c .away-from-zero .ensures binary64 refl refl n d some b)
 
 pub round-up-spec : {M : Type 1} → statement M
-round-up-spec =
-    tie.close (tie.spec toward-zero-requires returns returns-2 away-from-zero-requires returns-3)
+round-up-spec = tie.close (tie.spec (search needs) returns returns-2 (search needs) returns-3)

@@ -11,12 +11,6 @@ use Rattle.significands.proofs.SignedExponents.{kept, negative-apart, p
 use Rattle.significands.proofs.units.in_units.Statement.{statement}
 use Rattle.significands.proofs.units.in_units.Tie as tie
 
-size-requires : tie.Need-size-requires
-size-requires c κs = search needs
-
-cut-requires : tie.Need-cut-requires
-cut-requires c κs = search needs
-
 returns : tie.Need-returns
 returns c =
     let start = c .before .before .before in
@@ -34,9 +28,6 @@ returns c =
       ),
     )
 
-size-requires-2 : tie.Need-size-requires-2
-size-requires-2 c κs = search needs
-
 returns-2 : tie.Need-returns-2
 returns-2 c =
     let start = c .before .before in
@@ -51,4 +42,4 @@ returns-2 c =
     )
 
 pub in-units-spec : {M : Type 1} → statement M
-in-units-spec = tie.close (tie.spec size-requires cut-requires returns size-requires-2 returns-2)
+in-units-spec = tie.close (tie.spec (search needs) (search needs) returns (search needs) returns-2)

@@ -3,17 +3,11 @@ use borrow.Author.Needs.{needs}
 use Rattle.sums.proofs.combine.combined.Statement.{statement}
 use Rattle.sums.proofs.combine.combined.Tie as tie
 
-difference-requires : tie.Need-difference-requires
-difference-requires c κs = search needs
-
 returns : tie.Need-returns
 returns c = rw (c .before .if1 .taken) (c .difference .ensures)
-
-sum-requires : tie.Need-sum-requires
-sum-requires c κs = search needs
 
 returns-2 : tie.Need-returns-2
 returns-2 c = rw (c .before .if1 .left) (c .sum .ensures)
 
 pub combined-spec : {M : Type 1} → statement M
-combined-spec = tie.close (tie.spec difference-requires returns sum-requires returns-2)
+combined-spec = tie.close (tie.spec (search needs) returns (search needs) returns-2)

@@ -12,9 +12,6 @@ use Rattle.sums.proofs.CombineLaws.{left-there, low-le, low-less, no-di
 use Rattle.sums.proofs.combine.difference.Statement.{statement}
 use Rattle.sums.proofs.combine.difference.Tie as tie
 
-aligned-requires : tie.Need-aligned-requires
-aligned-requires c κs = search needs
-
 returns : tie.Need-returns
 returns c =
     let aligns = c .before .before .before .aligned .ensures .1 in
@@ -57,13 +54,4 @@ returns-3 c =
 
 pub difference-spec : {M : Type 1} → statement M
 difference-spec =
-    tie.close
-    (tie.spec
-    aligned-requires
-    returns
-    sub-t8
-    normalised-requires
-    returns-2
-    sub-t9
-    sub-t10
-    returns-3)
+    tie.close (tie.spec (search needs) returns sub-t8 normalised-requires returns-2 sub-t9 sub-t10 returns-3)

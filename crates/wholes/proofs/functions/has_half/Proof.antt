@@ -13,21 +13,6 @@ split-requires : tie.Need-split-requires
 unfolding magnitude signBit
 split-requires c κs = c .pre .finite
 
-enum-told : tie.Need-enum-told
-enum-told c = search needs
-
-enum-known-n : tie.Need-enum-known-n
-enum-known-n c = search needs
-
-enum-told-2 : tie.Need-enum-told-2
-enum-told-2 c = search needs
-
-enum-told-3 : tie.Need-enum-told-3
-enum-told-3 c = search needs
-
-enum-told-4 : tie.Need-enum-told-4
-enum-told-4 c = search needs
-
 returns : tie.Need-returns
 unfolding magnitude signBit
 returns c =
@@ -54,15 +39,5 @@ returns-4 c =
 
 pub has-half-spec : {M : Type 1} → statement M
 has-half-spec =
-    tie.close
-    (tie.spec
-    split-requires
-    enum-told
-    enum-known-n
-    enum-told-2
-    enum-told-3
-    enum-told-4
-    returns
-    returns-2
-    returns-3
-    returns-4)
+    tie.close (tie.spec split-requires (search needs) (search needs) (search needs) (search needs) (search needs)
+    returns returns-2 returns-3 returns-4)

@@ -11,24 +11,6 @@ use Rattle.wholes.proofs.functions.mirrored.Tie as tie
 by-name : {f g : Function} {other : Unary} → f ≡ g → Mirrors (operation g) other → Mirrors (operation f) other
 by-name {other = other} e = subst⁻¹ (λ (f : Function). Mirrors (operation f) other) e
 
-enum-told : tie.Need-enum-told
-enum-told c = search needs
-
-enum-told-2 : tie.Need-enum-told-2
-enum-told-2 c = search needs
-
-enum-told-3 : tie.Need-enum-told-3
-enum-told-3 c = search needs
-
-enum-told-4 : tie.Need-enum-told-4
-enum-told-4 c = search needs
-
-enum-told-5 : tie.Need-enum-told-5
-enum-told-5 c = search needs
-
-enum-told-6 : tie.Need-enum-told-6
-enum-told-6 c = search needs
-
 returns : tie.Need-returns
 returns c = by-name (c .enum-told .given .1) ceilFloor
 
@@ -49,17 +31,5 @@ returns-6 c = by-name (c .enum-told6 .given .1) truncTrunc
 
 pub mirrored-spec : {M : Type 1} → statement M
 mirrored-spec =
-    tie.close
-    (tie.spec
-    enum-told
-    enum-told-2
-    enum-told-3
-    enum-told-4
-    enum-told-5
-    enum-told-6
-    returns
-    returns-2
-    returns-3
-    returns-4
-    returns-5
-    returns-6)
+    tie.close (tie.spec (search needs) (search needs) (search needs) (search needs) (search needs) (search needs)
+    returns returns-2 returns-3 returns-4 returns-5 returns-6)

@@ -1,4 +1,5 @@
 -- `functions::value_at` meets its contract: a negative number goes by the mirrored function of its magnitude.
+use borrow.Author.Needs.{needs}
 use Rattle.patterns.specs.Format.{binary64, signBit}
 use Rattle.wholes.proofs.SignedLaws.{positive-finite, negative-finite, made-positive, made-negative}
 use Rattle.wholes.proofs.functions.value_at.Statement.{statement}
@@ -10,9 +11,6 @@ value-at-magnitude-requires c κs = positive-finite binary64 (c .before .pre) (c
 
 returns : tie.Need-returns
 returns c = made-positive binary64 (c .value-at-magnitude .ensures)
-
-mirrored-requires : tie.Need-mirrored-requires
-mirrored-requires c κs = tt
 
 value-at-magnitude-requires-2 : tie.Need-value-at-magnitude-requires-2
 unfolding signBit
@@ -29,11 +27,5 @@ returns-2 c =
 
 pub value-at-spec : {M : Type 1} → statement M
 value-at-spec =
-    tie.close
-    (tie.spec
-    value-at-magnitude-requires
-    returns
-    mirrored-requires
-    value-at-magnitude-requires-2
-    negative-requires
-    returns-2)
+    tie.close (tie.spec value-at-magnitude-requires returns (search needs) value-at-magnitude-requires-2
+    negative-requires returns-2)

@@ -12,42 +12,6 @@ use Rattle.wholes.proofs.functions.value_at_magnitude.Tie as tie
 by-name : {f g : Function} {m r : ℕ} → f ≡ g → MadeMagnitude binary64 (operation g) m r → MadeMagnitude binary64 (operation f) m r
 by-name {m = m} {r} e = subst⁻¹ (λ (f : Function). MadeMagnitude binary64 (operation f) m r) e
 
-enum-told : tie.Need-enum-told
-enum-told c = search needs
-
-upward-requires : tie.Need-upward-requires
-upward-requires c κs = search needs
-
-enum-told-2 : tie.Need-enum-told-2
-enum-told-2 c = search needs
-
-downward-requires : tie.Need-downward-requires
-downward-requires c κs = search needs
-
-enum-told-3 : tie.Need-enum-told-3
-enum-told-3 c = search needs
-
-nearest-requires : tie.Need-nearest-requires
-nearest-requires c κs = search needs
-
-enum-told-4 : tie.Need-enum-told-4
-enum-told-4 c = search needs
-
-nearest-even-requires : tie.Need-nearest-even-requires
-nearest-even-requires c κs = search needs
-
-enum-told-5 : tie.Need-enum-told-5
-enum-told-5 c = search needs
-
-sign-of-requires : tie.Need-sign-of-requires
-sign-of-requires c κs = search needs
-
-enum-told-6 : tie.Need-enum-told-6
-enum-told-6 c = search needs
-
-downward-requires-2 : tie.Need-downward-requires-2
-downward-requires-2 c κs = search needs
-
 returns : tie.Need-returns
 returns c = by-name (c .before .enum-told .given .1) (c .upward .ensures)
 
@@ -68,23 +32,6 @@ returns-6 c = by-name (c .before .enum-told6 .given .1) (trunc-made binary64 (c 
 
 pub value-at-magnitude-spec : {M : Type 1} → statement M
 value-at-magnitude-spec =
-    tie.close
-    (tie.spec
-    enum-told
-    upward-requires
-    enum-told-2
-    downward-requires
-    enum-told-3
-    nearest-requires
-    enum-told-4
-    nearest-even-requires
-    enum-told-5
-    sign-of-requires
-    enum-told-6
-    downward-requires-2
-    returns
-    returns-2
-    returns-3
-    returns-4
-    returns-5
-    returns-6)
+    tie.close (tie.spec (search needs) (search needs) (search needs) (search needs) (search needs) (search needs)
+    (search needs) (search needs) (search needs) (search needs) (search needs) (search needs) returns returns-2
+    returns-3 returns-4 returns-5 returns-6)

@@ -6,15 +6,6 @@ use Rattle.wholes.proofs.PartLaws.{part-whole, part-between, made-whole
 use Rattle.wholes.proofs.magnitudes.downward.Statement.{statement}
 use Rattle.wholes.proofs.magnitudes.downward.Tie as tie
 
-split-requires : tie.Need-split-requires
-split-requires c κs = search needs
-
-enum-told : tie.Need-enum-told
-enum-told c = search needs
-
-enum-known-n : tie.Need-enum-known-n
-enum-known-n c = search needs
-
 returns : tie.Need-returns
 returns c =
     made-whole binary64 keepsFloor (c .before .before .before .pre) (part-whole (c .before .before .split .ensures) (c .enum-told .given .1))
@@ -23,4 +14,4 @@ returns-2 : tie.Need-returns-2
 returns-2 c = floor-made (part-between (c .before .before .before .split .ensures) (c .before .n .given .1))
 
 pub downward-spec : {M : Type 1} → statement M
-downward-spec = tie.close (tie.spec split-requires enum-told enum-known-n returns returns-2)
+downward-spec = tie.close (tie.spec (search needs) (search needs) (search needs) returns returns-2)

@@ -6,24 +6,6 @@ use Rattle.wholes.proofs.PartLaws.{part-whole, part-between, made-whole
 use Rattle.wholes.proofs.magnitudes.nearest.Statement.{statement}
 use Rattle.wholes.proofs.magnitudes.nearest.Tie as tie
 
-split-requires : tie.Need-split-requires
-split-requires c κs = search needs
-
-enum-told : tie.Need-enum-told
-enum-told c = search needs
-
-enum-known-n : tie.Need-enum-known-n
-enum-known-n c = search needs
-
-enum-told-2 : tie.Need-enum-told-2
-enum-told-2 c = search needs
-
-enum-told-3 : tie.Need-enum-told-3
-enum-told-3 c = search needs
-
-enum-told-4 : tie.Need-enum-told-4
-enum-told-4 c = search needs
-
 returns : tie.Need-returns
 returns c =
     made-whole binary64 keepsRound (c .before .before .before .pre) (part-whole (c .before .before .split .ensures) (c .enum-told .given .1))
@@ -39,15 +21,5 @@ returns-4 c = round-high (part-between (c .before .before .before .before .befor
 
 pub nearest-spec : {M : Type 1} → statement M
 nearest-spec =
-    tie.close
-    (tie.spec
-    split-requires
-    enum-told
-    enum-known-n
-    enum-told-2
-    enum-told-3
-    enum-told-4
-    returns
-    returns-2
-    returns-3
-    returns-4)
+    tie.close (tie.spec (search needs) (search needs) (search needs) (search needs) (search needs) (search needs)
+    returns returns-2 returns-3 returns-4)

@@ -6,26 +6,8 @@ use Rattle.wholes.proofs.PartLaws.{part-whole, part-between, made-whole
 use Rattle.wholes.proofs.magnitudes.nearest_even.Statement.{statement}
 use Rattle.wholes.proofs.magnitudes.nearest_even.Tie as tie
 
-split-requires : tie.Need-split-requires
-split-requires c κs = search needs
-
-enum-told : tie.Need-enum-told
-enum-told c = search needs
-
-enum-known-n : tie.Need-enum-known-n
-enum-known-n c = search needs
-
-enum-told-2 : tie.Need-enum-told-2
-enum-told-2 c = search needs
-
-enum-told-3 : tie.Need-enum-told-3
-enum-told-3 c = search needs
-
 returns : tie.Need-returns
 returns c = even-middle (part-between (c .before .before .before .before .before .before .split .ensures) (c .before .before .before .before .n .given .1)) (c .before .enum-told3 .given .1) (c .if1 .taken)
-
-enum-told-4 : tie.Need-enum-told-4
-enum-told-4 c = search needs
 
 returns-2 : tie.Need-returns-2
 returns-2 c =
@@ -42,16 +24,5 @@ returns-5 c = even-high (part-between (c .before .before .before .before .before
 
 pub nearest-even-spec : {M : Type 1} → statement M
 nearest-even-spec =
-    tie.close
-    (tie.spec
-    split-requires
-    enum-told
-    enum-known-n
-    enum-told-2
-    enum-told-3
-    returns
-    enum-told-4
-    returns-2
-    returns-3
-    returns-4
-    returns-5)
+    tie.close (tie.spec (search needs) (search needs) (search needs) (search needs) (search needs) returns
+    (search needs) returns-2 returns-3 returns-4 returns-5)

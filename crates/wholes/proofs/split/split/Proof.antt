@@ -10,23 +10,12 @@ use Rattle.wholes.proofs.split.split.Tie as tie
 returns : tie.Need-returns
 returns c = isWhole (zero-whole binary64 (c .before .pre) (c .if1 .taken))
 
-side-of-requires : tie.Need-side-of-requires
-side-of-requires c κs = search needs
-
 returns-2 : tie.Need-returns-2
 returns-2 c =
     isBetween (small-between binary64 (omega arith) (c .before .before .before .pre) (omega arith) (c .before .if2 .taken) (c .side-of .ensures))
-
-split-digits-requires : tie.Need-split-digits-requires
-split-digits-requires c κs = search needs
-
-returns-3 : tie.Need-returns-3
-returns-3 c = search needs
 
 returns-4 : tie.Need-returns-4
 returns-4 c = isWhole (large-whole binary64 (c .before .before .before .pre) (c .if3 .left))
 
 pub split-spec : {M : Type 1} → statement M
-split-spec =
-    tie.close
-    (tie.spec returns side-of-requires returns-2 split-digits-requires returns-3 returns-4)
+split-spec = tie.close (tie.spec returns (search needs) returns-2 (search needs) (search needs) returns-4)

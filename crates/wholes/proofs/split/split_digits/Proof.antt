@@ -29,21 +29,6 @@ module _ {b : ℕ} (d : HasDigits binary64 b) where
   rest-inside : (b % 2 ^ 52 + 2 ^ 52) % unit ≤ b
   rest-inside = let l = d .fromOne in le-trans (mod-le (b % 2 ^ 52 + 2 ^ 52) unit) (omega arith)
 
-cast-unit : tie.Need-cast-unit
-cast-unit c = search needs
-
-shr-unit : tie.Need-shr-unit
-shr-unit c = search needs
-
-sub-unit : tie.Need-sub-unit
-sub-unit c = search needs
-
-shl-unit : tie.Need-shl-unit
-shl-unit c = search needs
-
-add-significand : tie.Need-add-significand
-add-significand c = search needs
-
 rem-rest : tie.Need-rem-rest
 unfolding unit
 rem-rest c = unit-positive (c .pre)
@@ -60,9 +45,6 @@ add-t8 : tie.Need-add-t8
 unfolding unit
 add-t8 c = record { fits = omega (arith, unit-small (c .before .pre)) }
 
-side-of-requires : tie.Need-side-of-requires
-side-of-requires c κs = search needs
-
 div-t6 : tie.Need-div-t6
 unfolding unit
 div-t6 c = unit-positive (c .before .before .pre)
@@ -75,17 +57,5 @@ returns-2 c =
 
 pub split-digits-spec : {M : Type 1} → statement M
 split-digits-spec =
-    tie.close
-    (tie.spec
-    cast-unit
-    shr-unit
-    sub-unit
-    shl-unit
-    add-significand
-    rem-rest
-    returns
-    sub-low
-    add-t8
-    side-of-requires
-    div-t6
-    returns-2)
+    tie.close (tie.spec (search needs) (search needs) (search needs) (search needs) (search needs) rem-rest returns
+    sub-low add-t8 (search needs) div-t6 returns-2)

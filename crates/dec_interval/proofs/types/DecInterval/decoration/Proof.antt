@@ -1,19 +1,11 @@
 -- `DecInterval::decoration` meets its contract: what is found wrong is refused, and a sound operand answered.
 use mathlib.Core.Path.{refl}
+use borrow.Author.Needs.{needs}
 use Rattle.patterns.specs.Format.{binary64}
 use Rattle.meaning.specs.Statement.{JudgedDecorated, right₁}
 use Rattle.interval.proofs.StatementLaws.{judged-sound, answered-wrong}
 use Rattle.dec_interval.proofs.types.DecInterval.decoration.Statement.{statement}
 use Rattle.dec_interval.proofs.types.DecInterval.decoration.Tie as tie
-
-judge-dec-requires : tie.Need-judge-dec-requires
-judge-dec-requires c κs = tt
-
-enum-told : tie.Need-enum-told
-enum-told c = c .match .keys1
-
-enum-known-n : tie.Need-enum-known-n
-enum-known-n c = c .match .keys2
 
 returns : tie.Need-returns
 returns c = right₁ (judged-sound (JudgedDecorated binary64) (c .before .before .judge-dec .ensures) (c .enum-told .given .1)) refl
@@ -22,4 +14,4 @@ returns-2 : tie.Need-returns-2
 returns-2 c = answered-wrong (JudgedDecorated binary64) (c .before .before .before .judge-dec .ensures) (c .before .n .given .1)
 
 pub decoration-spec : {M : Type 1} → statement M
-decoration-spec = tie.close (tie.spec judge-dec-requires enum-told enum-known-n returns returns-2)
+decoration-spec = tie.close (tie.spec (search needs) (search needs) (search needs) returns returns-2)

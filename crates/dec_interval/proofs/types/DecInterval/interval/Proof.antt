@@ -1,5 +1,6 @@
 -- `DecInterval::interval` meets its contract: what is found wrong is refused, and a sound operand answered.
 use mathlib.Core.Path.{subst⁻¹}
+use borrow.Author.Needs.{needs}
 use Rattle.patterns.specs.Format.{binary64}
 use Rattle.meaning.specs.Statement.{JudgedDecorated, right₁}
 use Rattle.meaning.specs.Bytes.{Tidied}
@@ -10,15 +11,6 @@ use Rattle.interval.proofs.StatementLaws.{judged-sound, answered-wrong}
 use Rattle.decorations.proofs.AgreeLaws.{sound-ends}
 use Rattle.dec_interval.proofs.types.DecInterval.interval.Statement.{statement}
 use Rattle.dec_interval.proofs.types.DecInterval.interval.Tie as tie
-
-judge-dec-requires : tie.Need-judge-dec-requires
-judge-dec-requires c κs = tt
-
-enum-told : tie.Need-enum-told
-enum-told c = c .match .keys1
-
-are-nans-requires : tie.Need-are-nans-requires
-are-nans-requires c κs = tt
 
 returns : tie.Need-returns
 returns c =
@@ -34,9 +26,6 @@ canonical-requires c κs =
 from-ends-requires : tie.Need-from-ends-requires
 from-ends-requires c κs = c .canonical .ensures .canonical .bare
 
-enum-known-n : tie.Need-enum-known-n
-enum-known-n c = c .match .keys2
-
 returns-2 : tie.Need-returns-2
 returns-2 c =
     right₁
@@ -49,14 +38,5 @@ returns-3 c = answered-wrong (JudgedDecorated binary64) (c .before .before .befo
 
 pub interval-spec : {M : Type 1} → statement M
 interval-spec =
-    tie.close
-    (tie.spec
-    judge-dec-requires
-    enum-told
-    are-nans-requires
-    returns
-    canonical-requires
-    from-ends-requires
-    enum-known-n
-    returns-2
-    returns-3)
+    tie.close (tie.spec (search needs) (search needs) (search needs) returns canonical-requires from-ends-requires
+    (search needs) returns-2 returns-3)

@@ -1,21 +1,10 @@
 -- `DecInterval::is_nai` meets its contract: what is found wrong is refused, and a sound operand answered.
+use borrow.Author.Needs.{needs}
 use Rattle.patterns.specs.Format.{binary64}
 use Rattle.meaning.specs.Statement.{JudgedDecorated, right₁}
 use Rattle.interval.proofs.StatementLaws.{judged-sound, answered-wrong}
 use Rattle.dec_interval.proofs.types.DecInterval.is_nai.Statement.{statement}
 use Rattle.dec_interval.proofs.types.DecInterval.is_nai.Tie as tie
-
-judge-dec-requires : tie.Need-judge-dec-requires
-judge-dec-requires c κs = tt
-
-enum-told : tie.Need-enum-told
-enum-told c = c .match .keys1
-
-are-nans-requires : tie.Need-are-nans-requires
-are-nans-requires c κs = tt
-
-enum-known-n : tie.Need-enum-known-n
-enum-known-n c = c .match .keys2
 
 returns : tie.Need-returns
 returns c =
@@ -26,6 +15,4 @@ returns-2 : tie.Need-returns-2
 returns-2 c = answered-wrong (JudgedDecorated binary64) (c .before .before .before .judge-dec .ensures) (c .before .n .given .1)
 
 pub is-nai-spec : {M : Type 1} → statement M
-is-nai-spec =
-    tie.close
-    (tie.spec judge-dec-requires enum-told are-nans-requires enum-known-n returns returns-2)
+is-nai-spec = tie.close (tie.spec (search needs) (search needs) (search needs) (search needs) returns returns-2)

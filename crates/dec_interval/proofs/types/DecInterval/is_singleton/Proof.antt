@@ -1,24 +1,10 @@
 -- `DecInterval::is_singleton` meets its contract: the interval part is asked, NaI is answered by itself, and a refusal is handed on.
+use borrow.Author.Needs.{needs}
 use Rattle.patterns.specs.Format.{binary64}
 use Rattle.meaning.specs.Decorations.{Point}
 use Rattle.dec_interval.proofs.PartLaws.{part-asked, nai-asked, part-refused}
 use Rattle.dec_interval.proofs.types.DecInterval.is_singleton.Statement.{statement}
 use Rattle.dec_interval.proofs.types.DecInterval.is_singleton.Tie as tie
-
-interval-requires : tie.Need-interval-requires
-interval-requires c κs = tt
-
-enum-known-x : tie.Need-enum-known-x
-enum-known-x c = c .match .keys1
-
-is-singleton-requires : tie.Need-is-singleton-requires
-is-singleton-requires c κs = tt
-
-enum-told : tie.Need-enum-told
-enum-told c = c .match .keys2
-
-enum-known-n : tie.Need-enum-known-n
-enum-known-n c = c .match .keys3
 
 returns : tie.Need-returns
 returns c = part-asked binary64 (c .before .before .before .before .interval .ensures) Point (c .before .before .x .given .1) (c .is-singleton .ensures)
@@ -31,13 +17,5 @@ returns-3 c = part-refused binary64 (c .before .before .before .interval .ensure
 
 pub is-singleton-spec : {M : Type 1} → statement M
 is-singleton-spec =
-    tie.close
-    (tie.spec
-    interval-requires
-    enum-known-x
-    is-singleton-requires
-    enum-told
-    enum-known-n
-    returns
-    returns-2
+    tie.close (tie.spec (search needs) (search needs) (search needs) (search needs) (search needs) returns returns-2
     returns-3)

@@ -1,21 +1,13 @@
 -- `DecInterval::set_dec` meets its contract: what is found wrong is refused, and a sound operand answered.
+use borrow.Author.Needs.{needs}
 use Rattle.patterns.specs.Format.{binary64}
 use Rattle.meaning.specs.Statement.{JudgedBare, right₁}
 use Rattle.interval.proofs.StatementLaws.{judged-sound, answered-wrong, sound-bare}
 use Rattle.dec_interval.proofs.types.DecInterval.set_dec.Statement.{statement}
 use Rattle.dec_interval.proofs.types.DecInterval.set_dec.Tie as tie
 
-judge-requires : tie.Need-judge-requires
-judge-requires c κs = tt
-
-enum-told : tie.Need-enum-told
-enum-told c = c .match .keys1
-
 settle-requires : tie.Need-settle-requires
 settle-requires c κs = sound-bare (judged-sound (JudgedBare binary64) (c .before .before .judge .ensures) (c .enum-told .given .1))
-
-enum-known-n : tie.Need-enum-known-n
-enum-known-n c = c .match .keys2
 
 returns : tie.Need-returns
 returns c =
@@ -26,5 +18,4 @@ returns-2 : tie.Need-returns-2
 returns-2 c = answered-wrong (JudgedBare binary64) (c .before .before .before .judge .ensures) (c .before .n .given .1)
 
 pub set-dec-spec : {M : Type 1} → statement M
-set-dec-spec =
-    tie.close (tie.spec judge-requires enum-told settle-requires enum-known-n returns returns-2)
+set-dec-spec = tie.close (tie.spec (search needs) (search needs) settle-requires (search needs) returns returns-2)

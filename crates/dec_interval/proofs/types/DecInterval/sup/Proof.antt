@@ -1,23 +1,9 @@
 -- `DecInterval::sup` meets its contract: the interval part is asked, NaI is answered by itself, and a refusal is handed on.
+use borrow.Author.Needs.{needs}
 use Rattle.patterns.specs.Format.{binary64, infinity, quietNaN}
 use Rattle.dec_interval.proofs.PartLaws.{part-upper, nai-end, part-refused}
 use Rattle.dec_interval.proofs.types.DecInterval.sup.Statement.{statement}
 use Rattle.dec_interval.proofs.types.DecInterval.sup.Tie as tie
-
-interval-requires : tie.Need-interval-requires
-interval-requires c κs = tt
-
-enum-known-x : tie.Need-enum-known-x
-enum-known-x c = c .match .keys1
-
-sup-requires : tie.Need-sup-requires
-sup-requires c κs = tt
-
-enum-told : tie.Need-enum-told
-enum-told c = c .match .keys2
-
-enum-known-n : tie.Need-enum-known-n
-enum-known-n c = c .match .keys3
 
 returns : tie.Need-returns
 returns c = part-upper binary64 (c .before .before .before .before .interval .ensures) (c .before .before .x .given .1) (c .sup .ensures)
@@ -31,13 +17,5 @@ returns-3 c = part-refused binary64 (c .before .before .before .interval .ensure
 
 pub sup-spec : {M : Type 1} → statement M
 sup-spec =
-    tie.close
-    (tie.spec
-    interval-requires
-    enum-known-x
-    sup-requires
-    enum-told
-    enum-known-n
-    returns
-    returns-2
+    tie.close (tie.spec (search needs) (search needs) (search needs) (search needs) (search needs) returns returns-2
     returns-3)

@@ -1,4 +1,5 @@
 -- `DecInterval::try_from_parts` meets its contract: what is found wrong is refused, and a sound operand answered.
+use borrow.Author.Needs.{needs}
 use Rattle.patterns.specs.Format.{binary64}
 use Rattle.meaning.specs.Statement.{JudgedDecorated, right₁}
 use Rattle.interval.proofs.StatementLaws.{judged-sound, answered-wrong}
@@ -6,17 +7,8 @@ use Rattle.decorations.proofs.AgreeLaws.{sound-ends}
 use Rattle.dec_interval.proofs.types.DecInterval.try_from_parts.Statement.{statement}
 use Rattle.dec_interval.proofs.types.DecInterval.try_from_parts.Tie as tie
 
-judge-dec-requires : tie.Need-judge-dec-requires
-judge-dec-requires c κs = tt
-
-enum-told : tie.Need-enum-told
-enum-told c = c .match .keys1
-
 canonical-dec-requires : tie.Need-canonical-dec-requires
 canonical-dec-requires c κs = sound-ends (judged-sound (JudgedDecorated binary64) (c .before .before .judge-dec .ensures) (c .enum-told .given .1))
-
-enum-known-n : tie.Need-enum-known-n
-enum-known-n c = c .match .keys2
 
 returns : tie.Need-returns
 returns c =
@@ -28,5 +20,4 @@ returns-2 c = answered-wrong (JudgedDecorated binary64) (c .before .before .befo
 
 pub try-from-parts-spec : {M : Type 1} → statement M
 try-from-parts-spec =
-    tie.close
-    (tie.spec judge-dec-requires enum-told canonical-dec-requires enum-known-n returns returns-2)
+    tie.close (tie.spec (search needs) (search needs) canonical-dec-requires (search needs) returns returns-2)

@@ -1,22 +1,14 @@
 -- `Interval::inf` meets its contract: what is found wrong is refused, and a sound operand answered.
 use mathlib.Core.Path.{refl}
+use borrow.Author.Needs.{needs}
 use Rattle.patterns.specs.Format.{binary64}
 use Rattle.meaning.specs.Statement.{JudgedBare, right₁}
 use Rattle.interval.proofs.StatementLaws.{judged-sound, answered-wrong, sound-bare}
 use Rattle.interval.proofs.types.Interval.inf.Statement.{statement}
 use Rattle.interval.proofs.types.Interval.inf.Tie as tie
 
-judge-requires : tie.Need-judge-requires
-judge-requires c κs = tt
-
-enum-told : tie.Need-enum-told
-enum-told c = c .match .keys1
-
 canonical-requires : tie.Need-canonical-requires
 canonical-requires c κs = sound-bare (judged-sound (JudgedBare binary64) (c .before .before .judge .ensures) (c .enum-told .given .1))
-
-enum-known-n : tie.Need-enum-known-n
-enum-known-n c = c .match .keys2
 
 returns : tie.Need-returns
 returns c =
@@ -27,5 +19,4 @@ returns-2 : tie.Need-returns-2
 returns-2 c = answered-wrong (JudgedBare binary64) (c .before .before .before .judge .ensures) (c .before .n .given .1)
 
 pub inf-spec : {M : Type 1} → statement M
-inf-spec =
-    tie.close (tie.spec judge-requires enum-told canonical-requires enum-known-n returns returns-2)
+inf-spec = tie.close (tie.spec (search needs) (search needs) canonical-requires (search needs) returns returns-2)

@@ -1,22 +1,11 @@
 -- `Interval::is_empty` meets its contract: what is found wrong is refused, and a sound operand answered.
+use borrow.Author.Needs.{needs}
 use Rattle.patterns.specs.Format.{binary64}
 use Rattle.meaning.specs.Statement.{JudgedBare, right₁}
 use Rattle.end_pairs.proofs.Shapes.{answers-nothing}
 use Rattle.interval.proofs.StatementLaws.{judged-sound, answered-wrong, sound-bare}
 use Rattle.interval.proofs.types.Interval.is_empty.Statement.{statement}
 use Rattle.interval.proofs.types.Interval.is_empty.Tie as tie
-
-judge-requires : tie.Need-judge-requires
-judge-requires c κs = tt
-
-enum-told : tie.Need-enum-told
-enum-told c = c .match .keys1
-
-is-empty-pair-requires : tie.Need-is-empty-pair-requires
-is-empty-pair-requires c κs = tt
-
-enum-known-n : tie.Need-enum-known-n
-enum-known-n c = c .match .keys2
 
 returns : tie.Need-returns
 returns c =
@@ -27,6 +16,4 @@ returns-2 : tie.Need-returns-2
 returns-2 c = answered-wrong (JudgedBare binary64) (c .before .before .before .judge .ensures) (c .before .n .given .1)
 
 pub is-empty-spec : {M : Type 1} → statement M
-is-empty-spec =
-    tie.close
-    (tie.spec judge-requires enum-told is-empty-pair-requires enum-known-n returns returns-2)
+is-empty-spec = tie.close (tie.spec (search needs) (search needs) (search needs) (search needs) returns returns-2)

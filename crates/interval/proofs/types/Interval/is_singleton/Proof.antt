@@ -1,21 +1,13 @@
 -- `Interval::is_singleton` meets its contract: what is found wrong is refused, and a sound operand answered.
+use borrow.Author.Needs.{needs}
 use Rattle.patterns.specs.Format.{binary64}
 use Rattle.meaning.specs.Statement.{JudgedBare, right₁}
 use Rattle.interval.proofs.StatementLaws.{judged-sound, answered-wrong, sound-bare}
 use Rattle.interval.proofs.types.Interval.is_singleton.Statement.{statement}
 use Rattle.interval.proofs.types.Interval.is_singleton.Tie as tie
 
-judge-requires : tie.Need-judge-requires
-judge-requires c κs = tt
-
-enum-told : tie.Need-enum-told
-enum-told c = c .match .keys1
-
 is-point-requires : tie.Need-is-point-requires
 is-point-requires c κs = sound-bare (judged-sound (JudgedBare binary64) (c .before .before .judge .ensures) (c .enum-told .given .1))
-
-enum-known-n : tie.Need-enum-known-n
-enum-known-n c = c .match .keys2
 
 returns : tie.Need-returns
 returns c =
@@ -27,4 +19,4 @@ returns-2 c = answered-wrong (JudgedBare binary64) (c .before .before .before .j
 
 pub is-singleton-spec : {M : Type 1} → statement M
 is-singleton-spec =
-    tie.close (tie.spec judge-requires enum-told is-point-requires enum-known-n returns returns-2)
+    tie.close (tie.spec (search needs) (search needs) is-point-requires (search needs) returns returns-2)

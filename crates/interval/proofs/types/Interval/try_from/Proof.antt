@@ -1,15 +1,13 @@
 -- `Interval::try_from` meets its contract: ends that are no interval's are refused, and others answered with their zeros as the
 -- bytes have them.
 use mathlib.Core.Path.{subst⁻¹}
+use borrow.Author.Needs.{needs}
 use Rattle.patterns.specs.Format.{binary64}
 use Rattle.meaning.specs.Statement.{first₁, right₁, bareFive, bareGood}
 use Rattle.meaning.specs.Bytes.{Tidied}
 use Rattle.flags.proofs.AnswerLaws.{said-yes, said-no}
 use Rattle.interval.proofs.types.Interval.try_from.Statement.{statement}
 use Rattle.interval.proofs.types.Interval.try_from.Tie as tie
-
-is-bare-requires : tie.Need-is-bare-requires
-is-bare-requires c κs = tt
 
 canonical-requires : tie.Need-canonical-requires
 canonical-requires c κs = said-yes (c .before .is-bare .ensures) (c .if1 .taken)
@@ -26,5 +24,4 @@ returns-2 : tie.Need-returns-2
 returns-2 c = first₁ (bareFive (said-no (c .before .is-bare .ensures) (c .if1 .left)))
 
 pub try-from-spec : {M : Type 1} → statement M
-try-from-spec =
-    tie.close (tie.spec is-bare-requires canonical-requires from-ends-requires returns returns-2)
+try-from-spec = tie.close (tie.spec (search needs) canonical-requires from-ends-requires returns returns-2)
