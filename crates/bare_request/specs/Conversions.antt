@@ -1,25 +1,17 @@
--- What the code's outcomes are in the terms of document 01.
+-- What the code's operands are in the terms of document 01.
 use mathlib.Core.Path.{_≡_}
 use mathlib.Core.List.{List}
 use Prim.Native.Nat.{ℕ}
 use Rattle.meaning.specs.Pairs.{Pair}
 use Rattle.meaning.specs.Statement as stated
 use Rattle.meaning.specs.Statement.{refused, given}
-use Rattle.meaning.specs.Bytes.{bigEndian, readPair, writePair}
-use Rattle.meaning.specs.Requests.{writeState, bareSize}
+use Rattle.meaning.specs.Bytes.{bigEndian, readPair}
 use Rattle.interval.specs.Conversions.{pairOf}
-use Rattle.bare_request.specs.declared.outcome.Outcome.{Outcome}
 use Rattle.bare_request.specs.declared.operation.Both.{Both}
-
--- The bytes of an outcome.
-unfoldable pub outcomeOf : Outcome → stated.Outcome (List ℕ)
-outcomeOf (Outcome.Given z) = given (writePair bigEndian (pairOf z))
-outcomeOf (Outcome.State s) = given (writeState bareSize s)
-outcomeOf (Outcome.Refused n p) = refused n p
 
 abbrev pub bothOf : Both → stated.Outcome (Pair × Pair)
 bothOf (Both.Read x y) = given (pairOf x, pairOf y)
-bothOf (Both.Refused n p) = refused n p
+bothOf (Both.Refused r) = refused r
 
 -- The pair that the bytes of an operand are read as.
 abbrev pub ReadPair : List ℕ → Pair → Type 0

@@ -1,57 +1,48 @@
 // Bare requests: 33 bytes, answered by 16.
 ghost use mathlib.Core.Path.{_≡_};
+ghost use mathlib.Core.List.{[], _∷_};
 ghost use lib.ListN.{length};
 ghost use Rattle.patterns.specs.Format.{binary64};
-ghost use Rattle.meaning.specs.Requests.{BareOutcome, BareRequest, Requested, Known, bareSize};
-ghost use Rattle.meaning.specs.Calls.{Tried};
-ghost use Rattle.bare_request.specs.Conversions.{outcomeOf};
+ghost use Rattle.meaning.specs.Requests as meant;
+ghost use Rattle.meaning.specs.Requests.{BareOutcome, BareRequest, Requested, bareSize};
+ghost use Rattle.meaning.specs.Calls.{Called};
 
 mod operation;
-mod outcome;
 
-use calls::BARE;
-use calls::NO_PLACE;
-use calls::Reply;
-use calls::UNKNOWN_OPERATION;
-use calls::bare_at;
+use calls::BARE_REQUEST;
+use interchange::BARE;
 use operation::one_operand;
 use operation::overlap_state;
 use operation::two_operands;
 use operations::Asked;
 use operations::numbered;
-use outcome::Outcome;
-use outcome::finish;
+use refusals::Refusal;
 
-const REQUEST: usize = 33;
-
+// Where the operation number stands.
 const NUMBER_AT: usize = 0;
 
-const FIRST_AT: usize = 1;
-
-const SECOND_AT: usize = 17;
-
-// The outcome of a request, by what its number asks for. One-operand operations do not read the second operand.
-fn answer(input: &[u8]) -> Outcome
-    requires { ⌜ length (now input) ≡ 33 ⌝ }
-    ensures { λ r. ⌜ Tried (Known (now (input .entry))) 3 (Requested bareSize (BareOutcome binary64) (now (input .entry))) (outcomeOf r) ⌝ }
+// Does what the number asks for. One-operand operations do not read the second operand.
+fn answer(input: &[u8], output: &mut [u8]) -> Refusal
+    requires { ⌜ (length (now input) ≡ 33) × (length (now output) ≡ 16) ⌝ }
+    ensures { λ r. ⌜ Called (meant.numbered ∷ []) (Requested bareSize (BareOutcome binary64)) (now (input .entry)) (now (output .entry)) r (now (output .exit)) ⌝ }
 {
     match numbered(input[NUMBER_AT]) {
-        Asked::One(f) => one_operand(f, bare_at(input, FIRST_AT)),
-        Asked::Two(o) => two_operands(o, bare_at(input, FIRST_AT), bare_at(input, SECOND_AT)),
-        Asked::Overlap => overlap_state(bare_at(input, FIRST_AT), bare_at(input, SECOND_AT)),
-        Asked::Nothing => Outcome::Refused(UNKNOWN_OPERATION, NO_PLACE),
+        Asked::One(f) => one_operand(f, input, output),
+        Asked::Two(o) => two_operands(o, input, output),
+        Asked::Overlap => overlap_state(input, output),
+        Asked::Nothing => Refusal::UNKNOWN_OPERATION,
     }
 }
 
 // Reads a bare request and writes its answer, or refuses it and writes nothing.
-pub fn request_bare(input: &[u8], output: &mut [u8]) -> Reply
-    ensures { λ r. ⌜ BareRequest binary64 (now (input .entry)) (now (output .entry)) (r .number) (r .place) (now (output .exit)) ⌝ }
+pub fn request_bare(input: &[u8], output: &mut [u8]) -> Refusal
+    ensures { λ r. ⌜ BareRequest binary64 (now (input .entry)) (now (output .entry)) r (now (output .exit)) ⌝ }
 {
-    if input.len() != REQUEST {
-        return Reply::WRONG_LENGTH;
+    if input.len() != BARE_REQUEST {
+        return Refusal::WRONG_LENGTH;
     }
     if output.len() != BARE {
-        return Reply::WRONG_ROOM;
+        return Refusal::WRONG_ROOM;
     }
-    finish(answer(input), output)
+    answer(input, output)
 }

@@ -1,67 +1,94 @@
-// Operations on the bytes of their operands, the first of which is judged before the second.
-ghost use mathlib.Core.List.{List};
-ghost use Prim.Native.Nat.{ℕ};
+// Operations on the operands of a request, the first of which is judged before the second.
+ghost use mathlib.Core.List.{[]};
+ghost use mathlib.Core.Path.{_≡_};
+ghost use lib.ListN.{length};
 ghost use Rattle.patterns.specs.Format.{binary64};
 ghost use Rattle.meaning.specs.Bytes.{bigEndian, JudgedBytes};
-ghost use Rattle.meaning.specs.Requests.{BareOutcome, unary, binary, overlap};
+ghost use Rattle.meaning.specs.Calls.{Called};
+ghost use Rattle.meaning.specs.Requests.{BareOutcome, unary, binary, overlap, firstOperand, secondOperand, bareSize};
 ghost use Rattle.meaning.specs.Statement.{Answered₂};
 ghost use Rattle.operations.specs.Names.{unaryOf, binaryOf};
-ghost use Rattle.request_laws.specs.Reads.{BothRead};
-ghost use Rattle.bare_request.specs.Conversions.{outcomeOf, bothOf, ReadPair};
-use crate::outcome::Outcome;
-use calls::BARE;
-use interchange::bare::try_from_be_bytes;
+ghost use Rattle.request_laws.specs.Reads.{OnOperands, BothRead};
+ghost use Rattle.bare_request.specs.Conversions.{bothOf, ReadPair};
+use calls::write_state;
+use end_bytes::ByteOrder;
+use interchange::BARE;
+use interchange::read_bare;
+use interchange::write_bare;
 use interval::Answer;
 use interval::Interval;
-use interval::SECOND;
 use operations::Binary;
 use operations::Unary;
 use operations::combine;
 use operations::image;
 use overlap::overlap_of;
 use overlap::state_number;
+use refusals::Refusal;
+use refusals::SECOND;
+
+// Where the operands start.
+const FIRST_AT: usize = 1;
+
+const SECOND_AT: usize = FIRST_AT + BARE;
 
 // Two operands, or the refusal of the first that is wrong.
 pub enum Both {
     Read(Interval, Interval),
-    Refused(u32, u32),
+    Refused(Refusal),
 }
 
-fn read_both(first: [u8; BARE], second: [u8; BARE]) -> Both
-    ensures { λ r. ⌜ Answered₂ (JudgedBytes binary64 bigEndian) (BothRead ReadPair) first second (bothOf r) ⌝ }
+fn read_both(input: &[u8]) -> Both
+    requires { ⌜ length (now input) ≡ 33 ⌝ }
+    ensures { λ r. ⌜ Answered₂ (JudgedBytes binary64 bigEndian) (BothRead ReadPair) (firstOperand bareSize (now (input .entry))) (secondOperand bareSize (now (input .entry))) (bothOf r) ⌝ }
 {
-    match try_from_be_bytes(first) {
-        Answer::Given(x) => match try_from_be_bytes(second) {
+    match read_bare(input, FIRST_AT, ByteOrder::Big) {
+        Answer::Given(x) => match read_bare(input, SECOND_AT, ByteOrder::Big) {
             Answer::Given(y) => Both::Read(x, y),
-            Answer::Refused(n, _) => Both::Refused(n, SECOND),
+            Answer::Refused(refusal) => Both::Refused(Refusal {
+                number: refusal.number,
+                place: SECOND,
+                index: refusal.index,
+            }),
         },
-        Answer::Refused(n, place) => Both::Refused(n, place),
+        Answer::Refused(refusal) => Both::Refused(refusal),
     }
 }
 
-pub fn one_operand(f: Unary, first: [u8; BARE]) -> Outcome
-    ensures { λ r. ⌜ ((second : List ℕ) → BareOutcome binary64 (unary (unaryOf f)) first second (outcomeOf r)) ⌝ }
+pub fn one_operand(f: Unary, input: &[u8], output: &mut [u8]) -> Refusal
+    requires { ⌜ (length (now input) ≡ 33) × (length (now output) ≡ 16) ⌝ }
+    ensures { λ r. ⌜ Called [] (OnOperands bareSize (BareOutcome binary64) (unary (unaryOf f))) (now (input .entry)) (now (output .entry)) r (now (output .exit)) ⌝ }
 {
-    match try_from_be_bytes(first) {
-        Answer::Given(x) => Outcome::Given(image(f, x)),
-        Answer::Refused(n, place) => Outcome::Refused(n, place),
+    match read_bare(input, FIRST_AT, ByteOrder::Big) {
+        Answer::Given(x) => {
+            write_bare(image(f, x), ByteOrder::Big, output);
+            Refusal::NONE
+        }
+        Answer::Refused(refusal) => refusal,
     }
 }
 
-pub fn two_operands(o: Binary, first: [u8; BARE], second: [u8; BARE]) -> Outcome
-    ensures { λ r. ⌜ BareOutcome binary64 (binary (binaryOf o)) first second (outcomeOf r) ⌝ }
+pub fn two_operands(o: Binary, input: &[u8], output: &mut [u8]) -> Refusal
+    requires { ⌜ (length (now input) ≡ 33) × (length (now output) ≡ 16) ⌝ }
+    ensures { λ r. ⌜ Called [] (OnOperands bareSize (BareOutcome binary64) (binary (binaryOf o))) (now (input .entry)) (now (output .entry)) r (now (output .exit)) ⌝ }
 {
-    match read_both(first, second) {
-        Both::Read(x, y) => Outcome::Given(combine(o, x, y)),
-        Both::Refused(n, place) => Outcome::Refused(n, place),
+    match read_both(input) {
+        Both::Read(x, y) => {
+            write_bare(combine(o, x, y), ByteOrder::Big, output);
+            Refusal::NONE
+        }
+        Both::Refused(refusal) => refusal,
     }
 }
 
-pub fn overlap_state(first: [u8; BARE], second: [u8; BARE]) -> Outcome
-    ensures { λ r. ⌜ BareOutcome binary64 overlap first second (outcomeOf r) ⌝ }
+pub fn overlap_state(input: &[u8], output: &mut [u8]) -> Refusal
+    requires { ⌜ (length (now input) ≡ 33) × (length (now output) ≡ 16) ⌝ }
+    ensures { λ r. ⌜ Called [] (OnOperands bareSize (BareOutcome binary64) overlap) (now (input .entry)) (now (output .entry)) r (now (output .exit)) ⌝ }
 {
-    match read_both(first, second) {
-        Both::Read(x, y) => Outcome::State(state_number(overlap_of(x.ends, y.ends))),
-        Both::Refused(n, place) => Outcome::Refused(n, place),
+    match read_both(input) {
+        Both::Read(x, y) => {
+            write_state(state_number(overlap_of(x.ends, y.ends)), output);
+            Refusal::NONE
+        }
+        Both::Refused(refusal) => refusal,
     }
 }

@@ -1,10 +1,10 @@
 // Chunks of decorated requests, which lie one behind the other: nineteen bytes for each.
 ghost use Rattle.request_laws.specs.Chunk.{Chunk, Replied};
 ghost use Rattle.bench_turn.specs.Room.{Roomy};
-use calls::DECORATED;
 use calls::DECORATED_REQUEST;
 use calls::REPLY;
 use decorated_request::request_decorated;
+use interchange::DECORATED;
 
 // Where the number stands in a reply.
 const NUMBER_AT: usize = 0;

@@ -1,2 +1,2 @@
 -- Laws of bytes at their places.
-pub mod PlaceLaws
+pub mod ZeroLaws

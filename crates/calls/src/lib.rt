@@ -1,16 +1,17 @@
-// What calls on lent bytes share: what they return, and how they read and write intervals.
-mod lent;
-mod reply;
+// What calls on lent bytes share: how long their bytes are, how a state is written, and a refusal packed.
+mod number;
+mod state;
 
-pub use lent::BARE;
-pub use lent::DECORATED;
-pub use lent::DECORATED_REQUEST;
-pub use lent::REPLY;
-pub use lent::bare_at;
-pub use lent::decorated_at;
-pub use lent::write_bare;
-pub use lent::write_decorated;
-pub use lent::write_state;
-pub use reply::NO_PLACE;
-pub use reply::Reply;
-pub use reply::UNKNOWN_OPERATION;
+use interchange::BARE;
+use interchange::DECORATED;
+pub use number::packed;
+pub use state::write_state;
+
+// The bytes of a bare request: an operation number and two operands.
+pub const BARE_REQUEST: usize = 1 + 2 * BARE;
+
+// The bytes of a decorated request.
+pub const DECORATED_REQUEST: usize = 1 + 2 * DECORATED;
+
+// The bytes of the bench program's reply to it: number, place, answer.
+pub const REPLY: usize = 2 + DECORATED;

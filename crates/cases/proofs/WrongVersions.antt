@@ -3,6 +3,7 @@ use mathlib.Core.Path.{_≡_, refl, sym}
 use mathlib.Core.Logic.{inl, ⊎-elim}
 use Prim.Native.Nat.{ℕ}
 use native.Mathlib.Omega.{arith}
+use Rattle.refusals.specs.declared.Refusal.{Refusal}
 use Rattle.patterns.specs.Format.{binary64, infinity, signBit}
 use Rattle.patterns.specs.Value.{value, magnitude, plus, minus}
 use Rattle.meaning.specs.Fraction.{Fraction}
@@ -24,14 +25,14 @@ use Rattle.cases.proofs.Examples.{Telling, Example₁, Example₂, exam
 
 -- A wrong version answers every call by one rule: it refuses, or it gives ENTIRE, EMPTY or its first operand.
 pub data Wrong (x : Pair) : Outcome Pair → Type 0 where
-  refuses : (n p : ℕ) → Wrong x (refused n p)
+  refuses : (r : Refusal) → Wrong x (refused r)
   answersEntire : Wrong x (given entire)
   answersEmpty : Wrong x (given emptiness)
   handsBack : Wrong x (given x)
 
 -- A telling answer is none of these.
 not-wrong : {x z : Pair} → Telling x z → {o : Outcome Pair} → Wrong x o → o ≡ given z → ⊥
-not-wrong t (refuses n p) e = let z : _≡_ {A = ℕ} 0 1 = cc in omega arith
+not-wrong t (refuses r) e = let z : _≡_ {A = ℕ} 0 1 = cc in omega arith
 not-wrong t answersEntire e = t .notEntire (cc)
 not-wrong t answersEmpty e = t .notEmpty (cc)
 not-wrong t handsBack e = t .notFirst (cc)
@@ -53,7 +54,7 @@ abbrev trivially : Pair → DecPair
 trivially x = record { pair = x; decoration = Trv }
 
 pub data WrongDec (x : DecPair) : Outcome DecPair → Type 0 where
-  refusesDec : (n p : ℕ) → WrongDec x (refused n p)
+  refusesDec : (r : Refusal) → WrongDec x (refused r)
   answersEntireDec : (d : Decoration) → WrongDec x (given (record { pair = entire; decoration = d }))
   answersEmptyDec : (d : Decoration) → WrongDec x (given (record { pair = emptiness; decoration = d }))
   handsBackDec : WrongDec x (given x)
@@ -114,9 +115,9 @@ met : RightState (pair one two) (pair two three) meets 4
 unfolding infinity signBit value magnitude plus minus
 met = state-tested (pair one two) (pair two three) meets 4 tt
 
-pub no-refusing-overlap : (n p : Pair → Pair → ℕ) → ((x y : Pair) → BareOverlap binary64 x y (refused (n x y) (p x y))) → ⊥
-no-refusing-overlap n p all =
-    let e : _≡_ {A = Outcome ℕ} (refused (n (pair one two) (only two)) (p (pair one two) (only two))) (given 10) =
+pub no-refusing-overlap : (r : Pair → Pair → Refusal) → ((x y : Pair) → BareOverlap binary64 x y (refused (r x y))) → ⊥
+no-refusing-overlap r all =
+    let e : _≡_ {A = Outcome ℕ} (refused (r (pair one two) (only two))) (given 10) =
     bareOverlap-once binary64 (pair one two) (only two) (all (pair one two) (only two)) (finished .answered) in
     let z : _≡_ {A = ℕ} 0 1 = cc in omega arith
 
@@ -152,11 +153,11 @@ finished-trivially = decorated-state one-two-proper two-proper finished
 met-trivially : DecOverlap binary64 (trivially (pair one two)) (trivially (pair two three)) (given 4)
 met-trivially = decorated-state one-two-proper two-three-proper met
 
-pub no-refusing-dec-overlap : (n p : DecPair → DecPair → ℕ) → ((x y : DecPair) → DecOverlap binary64 x y (refused (n x y) (p x y))) → ⊥
-no-refusing-dec-overlap n p all =
+pub no-refusing-dec-overlap : (r : DecPair → DecPair → Refusal) → ((x y : DecPair) → DecOverlap binary64 x y (refused (r x y))) → ⊥
+no-refusing-dec-overlap r all =
     let x = trivially (pair one two) in
     let y = trivially (only two) in
-    let e : _≡_ {A = Outcome ℕ} (refused (n x y) (p x y)) (given 10) = decOverlap-once binary64 x y (all x y) finished-trivially in
+    let e : _≡_ {A = Outcome ℕ} (refused (r x y)) (given 10) = decOverlap-once binary64 x y (all x y) finished-trivially in
     let z : _≡_ {A = ℕ} 0 1 = cc in omega arith
 
 pub no-constant-dec-overlap : (n : ℕ) → ((x y : DecPair) → DecOverlap binary64 x y (given n)) → ⊥

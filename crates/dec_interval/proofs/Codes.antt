@@ -20,32 +20,32 @@ dec-back x = λ i. record { x = x .x; d = code-back (x .d) i }
 
 decAnswerOf : Outcome DecPair → DecAnswer
 decAnswerOf (given x) = DecAnswer.Given (decIntervalOf x)
-decAnswerOf (refused n p) = DecAnswer.Refused n p
+decAnswerOf (refused r) = DecAnswer.Refused r
 
 decAnswer-back : (r : DecAnswer) → decAnswerOf (decOutcome r) ≡ r
 unfolding decAnswerOf
 decAnswer-back (DecAnswer.Given x) = ap DecAnswer.Given (dec-back x)
-decAnswer-back (DecAnswer.Refused n p) = refl
+decAnswer-back (DecAnswer.Refused r) = refl
 
 decorationAnswerOf : Outcome meant.Decoration → DecorationAnswer
 decorationAnswerOf (given d) = DecorationAnswer.Given (codeOf d)
-decorationAnswerOf (refused n p) = DecorationAnswer.Refused n p
+decorationAnswerOf (refused r) = DecorationAnswer.Refused r
 
 decorationAnswer-back : (r : DecorationAnswer) → decorationAnswerOf (decorationOutcome r) ≡ r
 unfolding decorationAnswerOf
 decorationAnswer-back (DecorationAnswer.Given d) = ap DecorationAnswer.Given (code-back d)
-decorationAnswer-back (DecorationAnswer.Refused n p) = refl
+decorationAnswer-back (DecorationAnswer.Refused r) = refl
 
 partAnswerOf : Outcome Part → PartAnswer
 partAnswerOf (given (part p)) = PartAnswer.Given (intervalOf p)
 partAnswerOf (given noPart) = PartAnswer.Missing
-partAnswerOf (refused n p) = PartAnswer.Refused n p
+partAnswerOf (refused r) = PartAnswer.Refused r
 
 partAnswer-back : (r : PartAnswer) → partAnswerOf (partOutcome r) ≡ r
 unfolding partAnswerOf
 partAnswer-back (PartAnswer.Given x) = refl
 partAnswer-back PartAnswer.Missing = refl
-partAnswer-back (PartAnswer.Refused n p) = refl
+partAnswer-back (PartAnswer.Refused r) = refl
 
 -- Two answers with the same outcome are equal.
 pub decAnswer-known : {r s : DecAnswer} → decOutcome r ≡ decOutcome s → r ≡ s

@@ -3,6 +3,7 @@
 use mathlib.Core.Bool.{Bool, false}
 use mathlib.Core.Path.{_≡_, _∙_, sym, ap, subst, subst⁻¹}
 use Prim.Native.Nat.{ℕ}
+use Rattle.refusals.specs.declared.Refusal.{Refusal}
 use Rattle.patterns.specs.Format.{Format, quietNaN}
 use Rattle.meaning.specs.Sets.{Set}
 use Rattle.meaning.specs.Pairs.{Pair, Bare, Canonical, setOf}
@@ -33,8 +34,8 @@ handed-on : (F : Format) {A B C : Type 0} {Judged : A → Verdict → Type 0} {W
 handed-on F f (right₁ j w) (first₁ (bareFive n)) = absurd (n (f j w .0 .bare))
 handed-on F f (right₁ j w) (right₁ k r) = right₁ j (f j w .1 _ r)
 
-refused-on : {A B C : Type 0} {Judged : A → Verdict → Type 0} {Worked : A → C → Type 0} {Right : A → B → Type 0} {x : A} {n p : ℕ}
-    → Answered₁ Judged Worked x (refused n p) → Answered₁ Judged Right x (refused n p)
+refused-on : {A B C : Type 0} {Judged : A → Verdict → Type 0} {Worked : A → C → Type 0} {Right : A → B → Type 0} {x : A} {r : Refusal}
+    → Answered₁ Judged Worked x (refused r) → Answered₁ Judged Right x (refused r)
 refused-on (first₁ j) = first₁ j
 
 -- What an answer says of the tidied pair, it says of the pair.
@@ -61,8 +62,8 @@ module _ (F : Format) {x : Pair} {v : Answer} (a : Answered₁ (JudgedBare F) (T
       handed-on F (λ j t. (t .canonical, setDec-tidied F t (sound-bare j)))
       (subst (λ (w : Answer). Answered₁ (JudgedBare F) (Tidied F) x (outcome w)) e a)
 
-  pub made-refused : {B : Type 0} {Right : Pair → B → Type 0} {n p : ℕ} → v ≡ Answer.Refused n p
-      → Answered₁ (JudgedBare F) Right x (refused n p)
+  pub made-refused : {B : Type 0} {Right : Pair → B → Type 0} {r : Refusal} → v ≡ Answer.Refused r
+      → Answered₁ (JudgedBare F) Right x (refused r)
   made-refused e = refused-on (subst (λ (w : Answer). Answered₁ (JudgedBare F) (Tidied F) x (outcome w)) e a)
 
 -- The interval part of a decorated interval is asked.
@@ -112,6 +113,6 @@ module _ (F : Format) {x : DecPair} {v : PartAnswer} (a : Answered₁ (JudgedDec
       go : Answered₁ (JudgedDecorated F) (PartOf F) x (given noPart) → Answered₁ (JudgedDecorated F) (DecEndOf F EndOf) x (given (quietNaN F))
       go (right₁ j (isMissing n)) = right₁ j (nanEnd n)
 
-  pub part-refused : {B : Type 0} {Right : DecPair → B → Type 0} {n p : ℕ} → v ≡ PartAnswer.Refused n p
-      → Answered₁ (JudgedDecorated F) Right x (refused n p)
+  pub part-refused : {B : Type 0} {Right : DecPair → B → Type 0} {r : Refusal} → v ≡ PartAnswer.Refused r
+      → Answered₁ (JudgedDecorated F) Right x (refused r)
   part-refused e = refused-on (found e)

@@ -15,13 +15,13 @@ decPairOf x = record { pair = pairOf (x .x); decoration = decorationOf (x .d) }
 
 abbrev pub decOutcome : DecAnswer → Outcome DecPair
 decOutcome (DecAnswer.Given x) = given (decPairOf x)
-decOutcome (DecAnswer.Refused n p) = refused n p
+decOutcome (DecAnswer.Refused r) = refused r
 
 abbrev pub decorationOutcome : DecorationAnswer → Outcome meant.Decoration
 decorationOutcome (DecorationAnswer.Given d) = given (decorationOf d)
-decorationOutcome (DecorationAnswer.Refused n p) = refused n p
+decorationOutcome (DecorationAnswer.Refused r) = refused r
 
 abbrev pub partOutcome : PartAnswer → Outcome Part
 partOutcome (PartAnswer.Given x) = given (part (pairOf x))
 partOutcome PartAnswer.Missing = given noPart
-partOutcome (PartAnswer.Refused n p) = refused n p
+partOutcome (PartAnswer.Refused r) = refused r

@@ -1,21 +1,22 @@
-// What a call on decorated intervals answers: a value, or a refusal by its number and the operand's place.
+// What a call on decorated intervals answers: a value, or a refusal.
 use crate::types::DecInterval;
 use decorations::Decoration;
 use interval::Interval;
+use refusals::Refusal;
 
 pub enum DecAnswer {
     Given(DecInterval),
-    Refused(u32, u32),
+    Refused(Refusal),
 }
 
 pub enum DecorationAnswer {
     Given(Decoration),
-    Refused(u32, u32),
+    Refused(Refusal),
 }
 
 // The interval part of a decorated interval. NaI has none.
 pub enum PartAnswer {
     Given(Interval),
     Missing,
-    Refused(u32, u32),
+    Refused(Refusal),
 }

@@ -22,7 +22,6 @@ use end_pairs::are_nans;
 use end_pairs::canonical;
 use interval::Answer;
 use interval::BoolAnswer;
-use interval::FIRST;
 use interval::Interval;
 use interval::Verdict;
 use interval::judge;
@@ -34,7 +33,7 @@ impl DecInterval {
     {
         match Interval::try_from(a, b) {
             Answer::Given(x) => DecInterval::new(x),
-            Answer::Refused(n, p) => DecAnswer::Refused(n, p),
+            Answer::Refused(refusal) => DecAnswer::Refused(refusal),
         }
     }
 
@@ -45,7 +44,7 @@ impl DecInterval {
         let ends = EndPair { a, b };
         match judge_dec(ends, d) {
             Verdict::Sound => DecAnswer::Given(canonical_dec(ends, d)),
-            Verdict::Wrong(n) => DecAnswer::Refused(n, FIRST),
+            Verdict::Refused(refusal) => DecAnswer::Refused(refusal),
         }
     }
 
@@ -74,7 +73,7 @@ impl DecInterval {
     {
         match judge(x) {
             Verdict::Sound => DecAnswer::Given(settle(x, d)),
-            Verdict::Wrong(n) => DecAnswer::Refused(n, FIRST),
+            Verdict::Refused(refusal) => DecAnswer::Refused(refusal),
         }
     }
 
@@ -91,7 +90,7 @@ impl DecInterval {
                 }
                 PartAnswer::Given(Interval::from_ends(canonical(ends)))
             }
-            Verdict::Wrong(n) => PartAnswer::Refused(n, FIRST),
+            Verdict::Refused(refusal) => PartAnswer::Refused(refusal),
         }
     }
 
@@ -102,7 +101,7 @@ impl DecInterval {
         let d = self.d;
         match judge_dec(self.x.ends, d) {
             Verdict::Sound => DecorationAnswer::Given(d),
-            Verdict::Wrong(n) => DecorationAnswer::Refused(n, FIRST),
+            Verdict::Refused(refusal) => DecorationAnswer::Refused(refusal),
         }
     }
 
@@ -113,7 +112,7 @@ impl DecInterval {
         let d = self.d;
         match judge_dec(self.x.ends, d) {
             Verdict::Sound => BoolAnswer::Given(are_nans(self.x.ends)),
-            Verdict::Wrong(n) => BoolAnswer::Refused(n, FIRST),
+            Verdict::Refused(refusal) => BoolAnswer::Refused(refusal),
         }
     }
 }

@@ -29,7 +29,7 @@ impl DecInterval {
         match self.interval() {
             PartAnswer::Given(x) => x.inf(),
             PartAnswer::Missing => EndAnswer::Given(NAI_END),
-            PartAnswer::Refused(n, p) => EndAnswer::Refused(n, p),
+            PartAnswer::Refused(refusal) => EndAnswer::Refused(refusal),
         }
     }
 
@@ -40,7 +40,7 @@ impl DecInterval {
         match self.interval() {
             PartAnswer::Given(x) => x.sup(),
             PartAnswer::Missing => EndAnswer::Given(NAI_END),
-            PartAnswer::Refused(n, p) => EndAnswer::Refused(n, p),
+            PartAnswer::Refused(refusal) => EndAnswer::Refused(refusal),
         }
     }
 
@@ -51,7 +51,7 @@ impl DecInterval {
         match self.interval() {
             PartAnswer::Given(x) => x.is_empty(),
             PartAnswer::Missing => BoolAnswer::Given(OF_NAI),
-            PartAnswer::Refused(n, p) => BoolAnswer::Refused(n, p),
+            PartAnswer::Refused(refusal) => BoolAnswer::Refused(refusal),
         }
     }
 
@@ -62,7 +62,7 @@ impl DecInterval {
         match self.interval() {
             PartAnswer::Given(x) => x.is_entire(),
             PartAnswer::Missing => BoolAnswer::Given(OF_NAI),
-            PartAnswer::Refused(n, p) => BoolAnswer::Refused(n, p),
+            PartAnswer::Refused(refusal) => BoolAnswer::Refused(refusal),
         }
     }
 
@@ -73,7 +73,7 @@ impl DecInterval {
         match self.interval() {
             PartAnswer::Given(x) => x.is_common_interval(),
             PartAnswer::Missing => BoolAnswer::Given(OF_NAI),
-            PartAnswer::Refused(n, p) => BoolAnswer::Refused(n, p),
+            PartAnswer::Refused(refusal) => BoolAnswer::Refused(refusal),
         }
     }
 
@@ -84,7 +84,7 @@ impl DecInterval {
         match self.interval() {
             PartAnswer::Given(x) => x.is_singleton(),
             PartAnswer::Missing => BoolAnswer::Given(OF_NAI),
-            PartAnswer::Refused(n, p) => BoolAnswer::Refused(n, p),
+            PartAnswer::Refused(refusal) => BoolAnswer::Refused(refusal),
         }
     }
 }

@@ -1,67 +1,94 @@
-// Operations on the bytes of their operands, the first of which is judged before the second.
-ghost use mathlib.Core.List.{List};
-ghost use Prim.Native.Nat.{ℕ};
+// Operations on the operands of a request, the first of which is judged before the second.
+ghost use mathlib.Core.List.{[]};
+ghost use mathlib.Core.Path.{_≡_};
+ghost use lib.ListN.{length};
 ghost use Rattle.patterns.specs.Format.{binary64};
 ghost use Rattle.meaning.specs.Bytes.{bigEndian, JudgedDecBytes, ReadDecorated};
-ghost use Rattle.meaning.specs.Requests.{DecoratedOutcome, unary, binary, overlap};
+ghost use Rattle.meaning.specs.Calls.{Called};
+ghost use Rattle.meaning.specs.Requests.{DecoratedOutcome, unary, binary, overlap, firstOperand, secondOperand, decoratedSize};
 ghost use Rattle.meaning.specs.Statement.{Answered₂};
 ghost use Rattle.operations.specs.Names.{unaryOf, binaryOf};
-ghost use Rattle.request_laws.specs.Reads.{BothRead};
-ghost use Rattle.decorated_request.specs.Conversions.{outcomeOf, bothOf};
-use crate::outcome::Outcome;
-use calls::DECORATED;
+ghost use Rattle.request_laws.specs.Reads.{OnOperands, BothRead};
+ghost use Rattle.decorated_request.specs.Conversions.{bothOf};
+use calls::write_state;
 use dec_interval::DecAnswer;
 use dec_interval::DecInterval;
-use interchange::decorated::try_from_be_bytes;
-use interval::SECOND;
+use end_bytes::ByteOrder;
+use interchange::DECORATED;
+use interchange::read_decorated;
+use interchange::write_decorated;
 use operations::Binary;
 use operations::Unary;
 use operations::combine_dec;
 use operations::image_dec;
 use overlap::dec_state_number;
 use overlap::overlap_of_dec;
+use refusals::Refusal;
+use refusals::SECOND;
+
+// Where the operands start.
+const FIRST_AT: usize = 1;
+
+const SECOND_AT: usize = FIRST_AT + DECORATED;
 
 // Two operands, or the refusal of the first that is wrong.
 pub enum Both {
     Read(DecInterval, DecInterval),
-    Refused(u32, u32),
+    Refused(Refusal),
 }
 
-fn read_both(first: [u8; DECORATED], second: [u8; DECORATED]) -> Both
-    ensures { λ r. ⌜ Answered₂ (JudgedDecBytes binary64 bigEndian) (BothRead (ReadDecorated binary64 bigEndian)) first second (bothOf r) ⌝ }
+fn read_both(input: &[u8]) -> Both
+    requires { ⌜ length (now input) ≡ 35 ⌝ }
+    ensures { λ r. ⌜ Answered₂ (JudgedDecBytes binary64 bigEndian) (BothRead (ReadDecorated binary64 bigEndian)) (firstOperand decoratedSize (now (input .entry))) (secondOperand decoratedSize (now (input .entry))) (bothOf r) ⌝ }
 {
-    match try_from_be_bytes(first) {
-        DecAnswer::Given(x) => match try_from_be_bytes(second) {
+    match read_decorated(input, FIRST_AT, ByteOrder::Big) {
+        DecAnswer::Given(x) => match read_decorated(input, SECOND_AT, ByteOrder::Big) {
             DecAnswer::Given(y) => Both::Read(x, y),
-            DecAnswer::Refused(n, _) => Both::Refused(n, SECOND),
+            DecAnswer::Refused(refusal) => Both::Refused(Refusal {
+                number: refusal.number,
+                place: SECOND,
+                index: refusal.index,
+            }),
         },
-        DecAnswer::Refused(n, place) => Both::Refused(n, place),
+        DecAnswer::Refused(refusal) => Both::Refused(refusal),
     }
 }
 
-pub fn one_operand(f: Unary, first: [u8; DECORATED]) -> Outcome
-    ensures { λ r. ⌜ ((second : List ℕ) → DecoratedOutcome binary64 (unary (unaryOf f)) first second (outcomeOf r)) ⌝ }
+pub fn one_operand(f: Unary, input: &[u8], output: &mut [u8]) -> Refusal
+    requires { ⌜ (length (now input) ≡ 35) × (length (now output) ≡ 17) ⌝ }
+    ensures { λ r. ⌜ Called [] (OnOperands decoratedSize (DecoratedOutcome binary64) (unary (unaryOf f))) (now (input .entry)) (now (output .entry)) r (now (output .exit)) ⌝ }
 {
-    match try_from_be_bytes(first) {
-        DecAnswer::Given(x) => Outcome::Given(image_dec(f, x)),
-        DecAnswer::Refused(n, place) => Outcome::Refused(n, place),
+    match read_decorated(input, FIRST_AT, ByteOrder::Big) {
+        DecAnswer::Given(x) => {
+            write_decorated(image_dec(f, x), ByteOrder::Big, output);
+            Refusal::NONE
+        }
+        DecAnswer::Refused(refusal) => refusal,
     }
 }
 
-pub fn two_operands(o: Binary, first: [u8; DECORATED], second: [u8; DECORATED]) -> Outcome
-    ensures { λ r. ⌜ DecoratedOutcome binary64 (binary (binaryOf o)) first second (outcomeOf r) ⌝ }
+pub fn two_operands(o: Binary, input: &[u8], output: &mut [u8]) -> Refusal
+    requires { ⌜ (length (now input) ≡ 35) × (length (now output) ≡ 17) ⌝ }
+    ensures { λ r. ⌜ Called [] (OnOperands decoratedSize (DecoratedOutcome binary64) (binary (binaryOf o))) (now (input .entry)) (now (output .entry)) r (now (output .exit)) ⌝ }
 {
-    match read_both(first, second) {
-        Both::Read(x, y) => Outcome::Given(combine_dec(o, x, y)),
-        Both::Refused(n, place) => Outcome::Refused(n, place),
+    match read_both(input) {
+        Both::Read(x, y) => {
+            write_decorated(combine_dec(o, x, y), ByteOrder::Big, output);
+            Refusal::NONE
+        }
+        Both::Refused(refusal) => refusal,
     }
 }
 
-pub fn overlap_state(first: [u8; DECORATED], second: [u8; DECORATED]) -> Outcome
-    ensures { λ r. ⌜ DecoratedOutcome binary64 overlap first second (outcomeOf r) ⌝ }
+pub fn overlap_state(input: &[u8], output: &mut [u8]) -> Refusal
+    requires { ⌜ (length (now input) ≡ 35) × (length (now output) ≡ 17) ⌝ }
+    ensures { λ r. ⌜ Called [] (OnOperands decoratedSize (DecoratedOutcome binary64) overlap) (now (input .entry)) (now (output .entry)) r (now (output .exit)) ⌝ }
 {
-    match read_both(first, second) {
-        Both::Read(x, y) => Outcome::State(dec_state_number(overlap_of_dec(x, y))),
-        Both::Refused(n, place) => Outcome::Refused(n, place),
+    match read_both(input) {
+        Both::Read(x, y) => {
+            write_state(dec_state_number(overlap_of_dec(x, y)), output);
+            Refusal::NONE
+        }
+        Both::Refused(refusal) => refusal,
     }
 }

@@ -1,6 +1,6 @@
 // Which ends and decorations are those of a decorated interval.
 ghost use Rattle.patterns.specs.Format.{binary64};
-ghost use Rattle.meaning.specs.Statement.{Ends, Agrees, JudgedDecorated};
+ghost use Rattle.meaning.specs.Statement.{Ends, Agrees, Found₁, JudgedDecorated};
 ghost use Rattle.flags.specs.Answers.{Answers};
 ghost use Rattle.end_pairs.specs.Conversions.{pairOf};
 ghost use Rattle.interval.specs.Conversions.{verdictOf};
@@ -12,9 +12,8 @@ use end_pairs::has_ends;
 use end_pairs::is_bare;
 use end_pairs::is_bounded;
 use end_pairs::is_proper;
-use interval::BAD_DECORATION;
-use interval::BAD_ENDS;
 use interval::Verdict;
+use refusals::Refusal;
 
 // Whether the decoration goes with the ends, which are those of an interval or of NaI.
 fn agrees(ends: EndPair, d: Decoration) -> bool
@@ -32,13 +31,13 @@ fn agrees(ends: EndPair, d: Decoration) -> bool
 
 // What is found of the ends and the decoration of a decorated operand.
 pub fn judge_dec(ends: EndPair, d: Decoration) -> Verdict
-    ensures { λ r. ⌜ JudgedDecorated binary64 (record { pair = pairOf ends; decoration = decorationOf d }) (verdictOf r) ⌝ }
+    ensures { λ r. ⌜ Found₁ (JudgedDecorated binary64) (record { pair = pairOf ends; decoration = decorationOf d }) (verdictOf r) ⌝ }
 {
     if !has_ends(ends) {
-        return Verdict::Wrong(BAD_ENDS);
+        return Verdict::Refused(Refusal::BAD_ENDS);
     }
     if !agrees(ends, d) {
-        return Verdict::Wrong(BAD_DECORATION);
+        return Verdict::Refused(Refusal::BAD_DECORATION);
     }
     Verdict::Sound
 }

@@ -5,10 +5,10 @@ use Prim.Native.Nat.{ℕ, _+_, _-_, _≤_}
 use native.Mathlib.Nat.{le-of-eq, le-refl}
 use native.Mathlib.Omega.{arith}
 use lib.ListN.{length, take, drop, set, length-drop, drop-of-length-le}
-use lib.Seq.{length-take-le, take-all, take-at, drop-at, drop-drop, set-at}
+use lib.Seq.{length-take-le, take-all, take-add, take-at, take-take, drop-at, drop-drop, set-at}
 use borrow.Rule.Slice.PartMut.{putMid}
 use Rattle.meaning.specs.Pairs.{Pair}
-use Rattle.meaning.specs.Bytes.{ByteOrder, bigEndian, littleEndian, writePair}
+use Rattle.meaning.specs.Bytes.{ByteOrder, bigEndian, littleEndian, readEnd, readPair, writePair}
 
 -- What is copied over a list of the same length replaces it.
 copied-over : (n : ℕ) (s d : List ℕ) → length s ≡ n → length d ≡ n → take n s ++ drop n d ≡ s
@@ -59,6 +59,16 @@ placed-both s l u first second eight e f =
 
     rest : drop 16 first ≡ drop 16 s
     rest = sym (drop-drop 8 8 first) ∙ ap (drop 8) (ap (drop 8) e ∙ drop-at l (drop 8 s) 8 eight) ∙ drop-drop 8 8 s
+
+-- The ends of a part that starts where a list does are those of the list.
+pub part-ends : (o : ByteOrder) (n : ℕ) (l : List ℕ) → 8 ≤ n → 8 ≤ length l → readPair o (take (8 + n) l) ≡ readPair o l
+part-ends o n l long some =
+    λ i. record { lower = readEnd o (take-take 8 (8 + n) l (omega arith) i); upper = readEnd o (upper i) }
+  where
+    upper : take 8 (drop 8 (take (8 + n) l)) ≡ take 8 (drop 8 l)
+    upper =
+        ap (λ (t : List ℕ). take 8 (drop 8 t)) (take-add 8 n l)
+        ∙ ap (take 8) (drop-at (take 8 l) (take n (drop 8 l)) 8 (length-take-le 8 l some)) ∙ take-take 8 n (drop 8 l) long
 
 pub length-pair : (o : ByteOrder) (p : Pair) → length (writePair o p) ≡ 16
 length-pair bigEndian p = refl

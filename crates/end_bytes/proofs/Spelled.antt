@@ -19,6 +19,6 @@ drop-spelled (suc n) k l e =
 pub spelled : (n : ℕ) (l : List ℕ) → length l ≡ n → l ≡ spell n 0 l
 spelled n l e = drop-spelled n 0 l (omega arith)
 
-pub reversed : (l : List ℕ) → length l ≡ 8
+pub spelled-back : (l : List ℕ) → length l ≡ 8
     → getD l 7 0 ∷ getD l 6 0 ∷ getD l 5 0 ∷ getD l 4 0 ∷ getD l 3 0 ∷ getD l 2 0 ∷ getD l 1 0 ∷ getD l 0 0 ∷ [] ≡ reverse l
-reversed l e = sym (ap reverse (spelled 8 l e))
+spelled-back l e = sym (ap reverse (spelled 8 l e))

@@ -1,7 +1,8 @@
 // A pattern and its eight bytes.
 ghost use mathlib.Core.Path.{_≡_};
+ghost use mathlib.Core.List.{reverse};
 ghost use Prim.Native.Nat.{_+_, _*_, _%_};
-ghost use Rattle.meaning.specs.Bytes.{fromDigits, toDigits, inOrder};
+ghost use Rattle.meaning.specs.Bytes.{fromDigits, toDigits, readEnd, writeEnd};
 ghost use Rattle.end_bytes.specs.Conversions.{orderOf};
 
 pub enum ByteOrder {
@@ -37,7 +38,7 @@ fn eight_bytes(low: u32, high: u32) -> u64
 }
 
 // The number of eight bytes, the first weighing least.
-pub fn from_digits(d: [u8; 8]) -> u64
+fn from_digits(d: [u8; 8]) -> u64
     ensures { λ r. ⌜ r ≡ fromDigits d ⌝ }
 {
     let low = four_bytes(two_bytes(d[0], d[1]), two_bytes(d[2], d[3]));
@@ -52,7 +53,7 @@ fn low_byte(n: u64) -> u8
 }
 
 // The eight bytes of a number, the first weighing least.
-pub fn to_digits(n: u64) -> [u8; 8]
+fn to_digits(n: u64) -> [u8; 8]
     ensures { λ r. ⌜ r ≡ toDigits 8 n ⌝ }
 {
     [
@@ -67,12 +68,28 @@ pub fn to_digits(n: u64) -> [u8; 8]
     ]
 }
 
-// Bytes from least to most weight in a byte order, and back.
-pub fn in_order(d: [u8; 8], order: ByteOrder) -> [u8; 8]
-    ensures { λ r. ⌜ r ≡ inOrder (orderOf order) d ⌝ }
+fn reversed(d: [u8; 8]) -> [u8; 8]
+    ensures { λ r. ⌜ r ≡ reverse d ⌝ }
+{
+    [d[7], d[6], d[5], d[4], d[3], d[2], d[1], d[0]]
+}
+
+// The end that eight bytes stand for. Each order is read by itself, so that an end costs one byte swap.
+pub fn read_end(d: [u8; 8], order: ByteOrder) -> u64
+    ensures { λ r. ⌜ r ≡ readEnd (orderOf order) d ⌝ }
 {
     match order {
-        ByteOrder::Big => [d[7], d[6], d[5], d[4], d[3], d[2], d[1], d[0]],
-        ByteOrder::Little => d,
+        ByteOrder::Big => from_digits(reversed(d)),
+        ByteOrder::Little => from_digits(d),
+    }
+}
+
+// The eight bytes of an end.
+pub fn write_end(n: u64, order: ByteOrder) -> [u8; 8]
+    ensures { λ r. ⌜ r ≡ writeEnd (orderOf order) n ⌝ }
+{
+    match order {
+        ByteOrder::Big => reversed(to_digits(n)),
+        ByteOrder::Little => to_digits(n),
     }
 }

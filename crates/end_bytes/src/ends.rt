@@ -7,15 +7,14 @@ ghost use Rattle.meaning.specs.Bytes.{readPair, writePair};
 ghost use Rattle.end_pairs.specs.Conversions.{pairOf};
 ghost use Rattle.end_bytes.specs.Conversions.{orderOf};
 use crate::digits::ByteOrder;
-use crate::digits::from_digits;
-use crate::digits::in_order;
-use crate::digits::to_digits;
+use crate::digits::read_end;
+use crate::digits::write_end;
 use end_pairs::EndPair;
 
 // Where the bytes of the upper end start.
 const UPPER_AT: usize = 8;
 
-// The eight bytes from a place on.
+// The eight bytes from a position on.
 fn eight_at(s: &[u8], start: usize) -> [u8; 8]
     requires { ⌜ start + 8 ≤ length (now s) ⌝ }
     ensures { λ r. ⌜ r ≡ take 8 (drop start (now (s .entry))) ⌝ }
@@ -26,7 +25,7 @@ fn eight_at(s: &[u8], start: usize) -> [u8; 8]
     d
 }
 
-// Puts eight bytes at a place.
+// Puts eight bytes at a position.
 fn put_eight(s: &mut [u8], start: usize, d: [u8; 8])
     requires { ⌜ start + 8 ≤ length (now s) ⌝ }
     ensures { λ _. ⌜ now (s .exit) ≡ take start (now (s .entry)) ++ (d ++ drop (start + 8) (now (s .entry))) ⌝ }
@@ -34,14 +33,14 @@ fn put_eight(s: &mut [u8], start: usize, d: [u8; 8])
     bytes::copy(&d, &mut s[start..]);
 }
 
-// The two ends that the first sixteen bytes stand for.
-pub fn read_ends(s: &[u8], order: ByteOrder) -> EndPair
-    requires { ⌜ 16 ≤ length (now s) ⌝ }
-    ensures { λ r. ⌜ pairOf r ≡ readPair (orderOf order) (now (s .entry)) ⌝ }
+// The two ends that the sixteen bytes from a position on stand for.
+pub fn read_ends(s: &[u8], start: usize, order: ByteOrder) -> EndPair
+    requires { ⌜ start + 16 ≤ length (now s) ⌝ }
+    ensures { λ r. ⌜ pairOf r ≡ readPair (orderOf order) (drop start (now (s .entry))) ⌝ }
 {
     EndPair {
-        a: from_digits(in_order(eight_at(s, 0), order)),
-        b: from_digits(in_order(eight_at(s, UPPER_AT), order)),
+        a: read_end(eight_at(s, start), order),
+        b: read_end(eight_at(s, start + UPPER_AT), order),
     }
 }
 
@@ -50,6 +49,6 @@ pub fn write_ends(s: &mut [u8], x: EndPair, order: ByteOrder)
     requires { ⌜ 16 ≤ length (now s) ⌝ }
     ensures { λ _. ⌜ now (s .exit) ≡ writePair (orderOf order) (pairOf x) ++ drop 16 (now (s .entry)) ⌝ }
 {
-    put_eight(s, 0, in_order(to_digits(x.a), order));
-    put_eight(s, UPPER_AT, in_order(to_digits(x.b), order));
+    put_eight(s, 0, write_end(x.a, order));
+    put_eight(s, UPPER_AT, write_end(x.b, order));
 }

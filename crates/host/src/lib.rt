@@ -3,13 +3,14 @@ ghost use Rattle.patterns.specs.Format.{binary64};
 ghost use Rattle.meaning.specs.Bytes.{bigEndian, littleEndian};
 ghost use Rattle.meaning.specs.Requests.{BareRequest, DecoratedRequest, BareCodec, DecoratedCodec};
 ghost use Rattle.request_laws.specs.Calls.{Packed};
+use calls::packed;
 
 // One operation on bare intervals: 33 bytes in, 16 out.
 #[no_mangle]
 pub extern "C" fn muenglavot_request_bare(input: &[u8], output: &mut [u8]) -> u32
     ensures { λ r. ⌜ Packed (BareRequest binary64) (now (input .entry)) (now (output .entry)) r (now (output .exit)) ⌝ }
 {
-    bare_request::request_bare(input, output).packed()
+    packed(bare_request::request_bare(input, output))
 }
 
 // One operation on decorated intervals: 35 bytes in, 17 out.
@@ -17,7 +18,7 @@ pub extern "C" fn muenglavot_request_bare(input: &[u8], output: &mut [u8]) -> u3
 pub extern "C" fn muenglavot_request_decorated(input: &[u8], output: &mut [u8]) -> u32
     ensures { λ r. ⌜ Packed (DecoratedRequest binary64) (now (input .entry)) (now (output .entry)) r (now (output .exit)) ⌝ }
 {
-    decorated_request::request_decorated(input, output).packed()
+    packed(decorated_request::request_decorated(input, output))
 }
 
 // One bare interval from big to little endian, 16 bytes each.
@@ -25,7 +26,7 @@ pub extern "C" fn muenglavot_request_decorated(input: &[u8], output: &mut [u8]) 
 pub extern "C" fn muenglavot_bare_be_to_le(input: &[u8], output: &mut [u8]) -> u32
     ensures { λ r. ⌜ Packed (BareCodec binary64 bigEndian littleEndian) (now (input .entry)) (now (output .entry)) r (now (output .exit)) ⌝ }
 {
-    codecs::bare_be_to_le(input, output).packed()
+    packed(codecs::bare_be_to_le(input, output))
 }
 
 // One bare interval from little to big endian, 16 bytes each.
@@ -33,7 +34,7 @@ pub extern "C" fn muenglavot_bare_be_to_le(input: &[u8], output: &mut [u8]) -> u
 pub extern "C" fn muenglavot_bare_le_to_be(input: &[u8], output: &mut [u8]) -> u32
     ensures { λ r. ⌜ Packed (BareCodec binary64 littleEndian bigEndian) (now (input .entry)) (now (output .entry)) r (now (output .exit)) ⌝ }
 {
-    codecs::bare_le_to_be(input, output).packed()
+    packed(codecs::bare_le_to_be(input, output))
 }
 
 // One decorated interval from big to little endian, 17 bytes each.
@@ -41,7 +42,7 @@ pub extern "C" fn muenglavot_bare_le_to_be(input: &[u8], output: &mut [u8]) -> u
 pub extern "C" fn muenglavot_decorated_be_to_le(input: &[u8], output: &mut [u8]) -> u32
     ensures { λ r. ⌜ Packed (DecoratedCodec binary64 bigEndian littleEndian) (now (input .entry)) (now (output .entry)) r (now (output .exit)) ⌝ }
 {
-    codecs::decorated_be_to_le(input, output).packed()
+    packed(codecs::decorated_be_to_le(input, output))
 }
 
 // One decorated interval from little to big endian, 17 bytes each.
@@ -49,5 +50,5 @@ pub extern "C" fn muenglavot_decorated_be_to_le(input: &[u8], output: &mut [u8])
 pub extern "C" fn muenglavot_decorated_le_to_be(input: &[u8], output: &mut [u8]) -> u32
     ensures { λ r. ⌜ Packed (DecoratedCodec binary64 littleEndian bigEndian) (now (input .entry)) (now (output .entry)) r (now (output .exit)) ⌝ }
 {
-    codecs::decorated_le_to_be(input, output).packed()
+    packed(codecs::decorated_le_to_be(input, output))
 }

@@ -1,4 +1,5 @@
 -- Laws of interchange bytes.
 pub mod ReadLaws
+pub mod LentLaws
 pub mod RoundTrip
 pub mod OneAnswer

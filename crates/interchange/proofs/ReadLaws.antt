@@ -3,15 +3,16 @@ use mathlib.Core.Path.{_≡_, subst, subst⁻¹}
 use mathlib.Core.List.{List}
 use mathlib.Core.Logic.{inl, inr}
 use Prim.Native.Nat.{ℕ}
+use Rattle.refusals.specs.declared.Refusal.{Refusal}
 use Rattle.patterns.specs.Format.{Format}
 use Rattle.meaning.specs.Pairs.{Pair, Canonical, NaNs}
 use Rattle.meaning.specs.Decorations as meant
-use Rattle.meaning.specs.Statement.{Outcome, wrong, Answered₁, first₁, right₁, DecPair, Ends, JudgedDecorated, decoratedFive, decoratedSix}
+use Rattle.meaning.specs.Statement.{Outcome, refused, Found₁, Answered₁, first₁, right₁, DecPair, Ends, JudgedDecorated, decoratedFive, decoratedSix}
 use Rattle.meaning.specs.Bytes.{ByteOrder, readPair, SaysDecoration, BytesEnds, canonicalEnds, nanEnds, JudgedDecBytes, decBytesFive, decBytesSix, decBytesGood, ReadDecorated, readNaI, readInterval}
 use Rattle.decorations.specs.Conversions.{decorationOf}
 use Rattle.decorations.specs.declared.types.Decoration.{Decoration}
 use Rattle.interchange.specs.Reading.{SaidBy, says, saysNone, JudgedRead, readFive, readSix, readGood, ReadAs, asNaI, asItself}
-use Rattle.interchange.specs.declared.decorated.ByteDecoration.{ByteDecoration}
+use Rattle.interchange.specs.declared.reading.ByteDecoration.{ByteDecoration}
 
 pub known : {b : ℕ} {r : ByteDecoration} {d : Decoration} → SaidBy b r → r ≡ ByteDecoration.Known d
     → b ≡ meant.decorationByte (decorationOf d)
@@ -49,9 +50,10 @@ module _ {F : Format} where
   bytes-ends (nanEnds n) = inr n
 
   -- What is wrong with ends that bytes may have is their decoration.
-  pub wrong-read : {x : DecPair} {n : ℕ} → BytesEnds F (x .pair) → JudgedDecorated F x (wrong n) → JudgedRead F x (wrong n)
-  wrong-read b (decoratedFive n) = absurd (n (bytes-ends b))
-  wrong-read b (decoratedSix e a) = readSix b a
+  pub wrong-read : {x : DecPair} {r : Refusal} → BytesEnds F (x .pair) → Found₁ (JudgedDecorated F) x (refused r)
+      → Answered₁ (JudgedRead F) (ReadAs F) x (refused r)
+  wrong-read b (first₁ (decoratedFive n)) = absurd (n (bytes-ends b))
+  wrong-read b (first₁ (decoratedSix e a)) = first₁ (readSix b a)
 
   -- Ends that are no NaNs are read as they are.
   pub as-itself : {p q : Pair} {d : meant.Decoration} → q ≡ p → (NaNs F p → ⊥)

@@ -5,7 +5,7 @@ use Prim.Native.Nat.{ℕ}
 use lib.ListN.{replicate}
 use Rattle.patterns.specs.Format.{Format}
 use Rattle.meaning.specs.Pairs.{Pair}
-use Rattle.meaning.specs.Statement.{Outcome, refused, given, Verdict, Answered₁, DecPair}
+use Rattle.meaning.specs.Statement.{Outcome, refused, given, noRefusal, Verdict, Answered₁, DecPair}
 use Rattle.meaning.specs.Bytes.{ByteOrder, writePair, writeDecorated, Written, Tidied}
 use Rattle.dec_interval.specs.Values.{TidiedDec}
 use Rattle.interchange.specs.declared.bare.BytesAnswer.{BytesAnswer}
@@ -19,14 +19,14 @@ WrittenBare F o x bs = Written (writePair o) (Tidied F x) bs
 abbrev pub WrittenDec : Format → ByteOrder → DecPair → List ℕ → Type 0
 WrittenDec F o x bs = Written (writeDecorated o) (TidiedDec F x) bs
 
--- The answer of an outcome: number 0 with the bytes; of a refusal its number and place, and zero bytes.
+-- The answer of an outcome: no refusal with the bytes, or the refusal with zero bytes.
 abbrev pub bytesAnswerOf : Outcome (List ℕ) → BytesAnswer
-bytesAnswerOf (given bs) = record { number = 0; place = 0; bytes = bs }
-bytesAnswerOf (refused n p) = record { number = n; place = p; bytes = replicate 16 0 }
+bytesAnswerOf (given bs) = record { refusal = noRefusal; bytes = bs }
+bytesAnswerOf (refused r) = record { refusal = r; bytes = replicate 16 0 }
 
 abbrev pub decBytesAnswerOf : Outcome (List ℕ) → DecBytesAnswer
-decBytesAnswerOf (given bs) = record { number = 0; place = 0; bytes = bs }
-decBytesAnswerOf (refused n p) = record { number = n; place = p; bytes = replicate 17 0 }
+decBytesAnswerOf (given bs) = record { refusal = noRefusal; bytes = bs }
+decBytesAnswerOf (refused r) = record { refusal = r; bytes = replicate 17 0 }
 
 -- r is the answer of an outcome that is right for x.
 pub record AnsweredBy {A B R : Type 0} (answerOf : Outcome B → R) (Judged : A → Verdict → Type 0) (Right : A → B → Type 0) (x : A) (r : R) : Type 0 where

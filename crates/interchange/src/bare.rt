@@ -6,36 +6,28 @@ ghost use Rattle.meaning.specs.Bytes.{bigEndian, littleEndian, readPair, Judged
 ghost use Rattle.interval.specs.Conversions.{pairOf, outcome};
 ghost use Rattle.end_bytes.specs.Conversions.{orderOf};
 ghost use Rattle.interchange.specs.Written.{AnsweredBy, WrittenBare, bytesAnswerOf};
-use crate::canonical::is_canonical;
+use crate::lent::BARE;
+use crate::lent::read_bare;
+use crate::lent::write_bare;
 use end_bytes::ByteOrder;
-use end_bytes::read_ends;
-use end_bytes::write_ends;
 use end_pairs::canonical;
-use interval::ACCEPTED;
 use interval::Answer;
-use interval::BAD_ENDS;
-use interval::FIRST;
 use interval::Interval;
-use interval::NO_PLACE;
 use interval::Verdict;
 use interval::judge;
+use refusals::Refusal;
 
-// Sixteen bytes with number 0, or a refusal's number and place with zero bytes.
+// Sixteen bytes and no refusal, or a refusal with zero bytes.
 pub struct BytesAnswer {
-    pub number: u32,
-    pub place: u32,
-    pub bytes: [u8; 16],
+    pub refusal: Refusal,
+    pub bytes: [u8; BARE],
 }
 
 // What bytes of either order stand for.
-fn read(bytes: [u8; 16], order: ByteOrder) -> Answer
+fn read(bytes: [u8; BARE], order: ByteOrder) -> Answer
     ensures { λ r. ⌜ Answered₁ (JudgedBytes binary64 (orderOf order)) (λ bs z. z ≡ readPair (orderOf order) bs) bytes (outcome r) ⌝ }
 {
-    let ends = read_ends(&bytes, order);
-    if is_canonical(ends) {
-        return Answer::Given(Interval::from_ends(ends));
-    }
-    Answer::Refused(BAD_ENDS, FIRST)
+    read_bare(&bytes, 0, order)
 }
 
 // The bytes in either order.
@@ -44,18 +36,16 @@ fn write(x: Interval, order: ByteOrder) -> BytesAnswer
 {
     match judge(x) {
         Verdict::Sound => {
-            let mut bytes = [0u8; 16];
-            write_ends(&mut bytes, canonical(x.ends), order);
+            let mut bytes = [0u8; BARE];
+            write_bare(Interval::from_ends(canonical(x.ends)), order, &mut bytes);
             BytesAnswer {
-                number: ACCEPTED,
-                place: NO_PLACE,
+                refusal: Refusal::NONE,
                 bytes,
             }
         }
-        Verdict::Wrong(n) => BytesAnswer {
-            number: n,
-            place: FIRST,
-            bytes: [0u8; 16],
+        Verdict::Refused(refusal) => BytesAnswer {
+            refusal,
+            bytes: [0u8; BARE],
         },
     }
 }

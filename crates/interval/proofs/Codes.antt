@@ -23,39 +23,39 @@ intervalOf p = record { ends = record { a = p .lower; b = p .upper } }
 
 answerOf : Outcome Pair → Answer
 answerOf (given p) = Answer.Given (intervalOf p)
-answerOf (refused n p) = Answer.Refused n p
+answerOf (refused r) = Answer.Refused r
 
 answer-back : (r : Answer) → answerOf (outcome r) ≡ r
 unfolding answerOf
 answer-back (Answer.Given x) = refl
-answer-back (Answer.Refused n p) = refl
+answer-back (Answer.Refused r) = refl
 
 boolAnswerOf : Outcome Bool → BoolAnswer
 boolAnswerOf (given b) = BoolAnswer.Given b
-boolAnswerOf (refused n p) = BoolAnswer.Refused n p
+boolAnswerOf (refused r) = BoolAnswer.Refused r
 
 boolAnswer-back : (r : BoolAnswer) → boolAnswerOf (boolOutcome r) ≡ r
 unfolding boolAnswerOf
 boolAnswer-back (BoolAnswer.Given b) = refl
-boolAnswer-back (BoolAnswer.Refused n p) = refl
+boolAnswer-back (BoolAnswer.Refused r) = refl
 
 endAnswerOf : Outcome ℕ → EndAnswer
 endAnswerOf (given e) = EndAnswer.Given e
-endAnswerOf (refused n p) = EndAnswer.Refused n p
+endAnswerOf (refused r) = EndAnswer.Refused r
 
 endAnswer-back : (r : EndAnswer) → endAnswerOf (endOutcome r) ≡ r
 unfolding endAnswerOf
 endAnswer-back (EndAnswer.Given e) = refl
-endAnswer-back (EndAnswer.Refused n p) = refl
+endAnswer-back (EndAnswer.Refused r) = refl
 
 classAnswerOf : Outcome Class → ClassAnswer
 classAnswerOf (given c) = ClassAnswer.Given (codeOf c)
-classAnswerOf (refused n p) = ClassAnswer.Refused n p
+classAnswerOf (refused r) = ClassAnswer.Refused r
 
 classAnswer-back : (r : ClassAnswer) → classAnswerOf (classOutcome r) ≡ r
 unfolding classAnswerOf
 classAnswer-back (ClassAnswer.Given c) = ap ClassAnswer.Given (code-back c)
-classAnswer-back (ClassAnswer.Refused n p) = refl
+classAnswer-back (ClassAnswer.Refused r) = refl
 
 -- Two answers with the same outcome are equal.
 pub answer-known : {r s : Answer} → outcome r ≡ outcome s → r ≡ s

@@ -4,7 +4,6 @@ use mathlib.Core.Bool.{Bool}
 use Prim.Native.Nat.{ℕ}
 use Rattle.meaning.specs.Pairs.{Pair}
 use Rattle.meaning.specs.Classes.{Class}
-use Rattle.meaning.specs.Statement as stated
 use Rattle.meaning.specs.Statement.{Outcome, refused, given}
 use Rattle.end_pairs.specs.Conversions as two
 use Rattle.classify.specs.Conversions.{classOf}
@@ -18,22 +17,22 @@ use Rattle.interval.specs.declared.answers.ClassAnswer.{ClassAnswer}
 abbrev pub pairOf : Interval → Pair
 pairOf x = two.pairOf (x .ends)
 
-abbrev pub verdictOf : Verdict → stated.Verdict
-verdictOf Verdict.Sound = stated.sound
-verdictOf (Verdict.Wrong n) = stated.wrong n
+abbrev pub verdictOf : Verdict → Outcome (Unit {0})
+verdictOf Verdict.Sound = given tt
+verdictOf (Verdict.Refused r) = refused r
 
 abbrev pub outcome : Answer → Outcome Pair
 outcome (Answer.Given x) = given (pairOf x)
-outcome (Answer.Refused n p) = refused n p
+outcome (Answer.Refused r) = refused r
 
 abbrev pub boolOutcome : BoolAnswer → Outcome Bool
 boolOutcome (BoolAnswer.Given b) = given b
-boolOutcome (BoolAnswer.Refused n p) = refused n p
+boolOutcome (BoolAnswer.Refused r) = refused r
 
 abbrev pub endOutcome : EndAnswer → Outcome ℕ
 endOutcome (EndAnswer.Given e) = given e
-endOutcome (EndAnswer.Refused n p) = refused n p
+endOutcome (EndAnswer.Refused r) = refused r
 
 abbrev pub classOutcome : ClassAnswer → Outcome Class
 classOutcome (ClassAnswer.Given c) = given (classOf c)
-classOutcome (ClassAnswer.Refused n p) = refused n p
+classOutcome (ClassAnswer.Refused r) = refused r

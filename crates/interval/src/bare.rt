@@ -11,11 +11,9 @@ ghost use Rattle.flags.specs.Answers.{Answers};
 ghost use Rattle.interval.specs.Conversions.{pairOf, outcome, boolOutcome, endOutcome, classOutcome};
 ghost use Rattle.interval.specs.Values.{LowerOf, UpperOf};
 use crate::answers::Answer;
-use crate::answers::BAD_ENDS;
 use crate::answers::BoolAnswer;
 use crate::answers::ClassAnswer;
 use crate::answers::EndAnswer;
-use crate::answers::FIRST;
 use crate::answers::Verdict;
 use crate::judging::judge;
 use crate::types::Interval;
@@ -27,6 +25,7 @@ use end_pairs::is_bare;
 use end_pairs::is_bounded;
 use end_pairs::is_empty_pair;
 use end_pairs::is_point;
+use refusals::Refusal;
 
 impl Interval {
     // The interval [a, b], or EMPTY from EMPTY's ends.
@@ -37,7 +36,7 @@ impl Interval {
         if is_bare(ends) {
             return Answer::Given(Interval::from_ends(canonical(ends)));
         }
-        Answer::Refused(BAD_ENDS, FIRST)
+        Answer::Refused(Refusal::BAD_ENDS)
     }
 
     // The lower bound: -0.0 for a zero, and +inf of EMPTY.
@@ -46,7 +45,7 @@ impl Interval {
     {
         match judge(self) {
             Verdict::Sound => EndAnswer::Given(canonical(self.ends).a),
-            Verdict::Wrong(n) => EndAnswer::Refused(n, FIRST),
+            Verdict::Refused(refusal) => EndAnswer::Refused(refusal),
         }
     }
 
@@ -56,7 +55,7 @@ impl Interval {
     {
         match judge(self) {
             Verdict::Sound => EndAnswer::Given(canonical(self.ends).b),
-            Verdict::Wrong(n) => EndAnswer::Refused(n, FIRST),
+            Verdict::Refused(refusal) => EndAnswer::Refused(refusal),
         }
     }
 
@@ -66,7 +65,7 @@ impl Interval {
     {
         match judge(self) {
             Verdict::Sound => BoolAnswer::Given(is_empty_pair(self.ends)),
-            Verdict::Wrong(n) => BoolAnswer::Refused(n, FIRST),
+            Verdict::Refused(refusal) => BoolAnswer::Refused(refusal),
         }
     }
 
@@ -76,7 +75,7 @@ impl Interval {
     {
         match judge(self) {
             Verdict::Sound => BoolAnswer::Given(holds_all(self.ends)),
-            Verdict::Wrong(n) => BoolAnswer::Refused(n, FIRST),
+            Verdict::Refused(refusal) => BoolAnswer::Refused(refusal),
         }
     }
 
@@ -86,7 +85,7 @@ impl Interval {
     {
         match judge(self) {
             Verdict::Sound => BoolAnswer::Given(is_bounded(self.ends)),
-            Verdict::Wrong(n) => BoolAnswer::Refused(n, FIRST),
+            Verdict::Refused(refusal) => BoolAnswer::Refused(refusal),
         }
     }
 
@@ -96,7 +95,7 @@ impl Interval {
     {
         match judge(self) {
             Verdict::Sound => BoolAnswer::Given(is_point(self.ends)),
-            Verdict::Wrong(n) => BoolAnswer::Refused(n, FIRST),
+            Verdict::Refused(refusal) => BoolAnswer::Refused(refusal),
         }
     }
 
@@ -106,7 +105,7 @@ impl Interval {
     {
         match judge(self) {
             Verdict::Sound => ClassAnswer::Given(classify(self.ends)),
-            Verdict::Wrong(n) => ClassAnswer::Refused(n, FIRST),
+            Verdict::Refused(refusal) => ClassAnswer::Refused(refusal),
         }
     }
 }

@@ -4,17 +4,10 @@ mod bare;
 mod judging;
 mod types;
 
-pub use answers::ACCEPTED;
 pub use answers::Answer;
-pub use answers::BAD_BYTE;
-pub use answers::BAD_DECORATION;
-pub use answers::BAD_ENDS;
 pub use answers::BoolAnswer;
 pub use answers::ClassAnswer;
 pub use answers::EndAnswer;
-pub use answers::FIRST;
-pub use answers::NO_PLACE;
-pub use answers::SECOND;
 pub use answers::Verdict;
 pub use judging::judge;
 pub use types::Interval;

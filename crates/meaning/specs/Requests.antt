@@ -3,6 +3,7 @@ use mathlib.Core.Path.{_≡_}
 use mathlib.Core.List.{List, [], _∷_}
 use Prim.Native.Nat.{ℕ, zero, suc, _+_, _-_}
 use lib.ListN.{length, take, drop, getD}
+use Rattle.refusals.specs.declared.Refusal.{Refusal}
 use Rattle.patterns.specs.Format.{Format}
 use Rattle.meaning.specs.Sets.{Set}
 use Rattle.meaning.specs.Pairs.{setOf}
@@ -132,19 +133,19 @@ abbrev pub codecTests : (size : ℕ) → List (Test (List ℕ))
 codecTests size = inputOf size ∷ outputOf size ∷ []
 
 -- The statements of the two request calls.
-abbrev pub BareRequest : Format → (input before : List ℕ) (number place : ℕ) (after : List ℕ) → Type 0
-BareRequest F input before number place after = Called (requestTests bareSize) (Requested bareSize (BareOutcome F)) input before number place after
+abbrev pub BareRequest : Format → (input before : List ℕ) (refusal : Refusal) (after : List ℕ) → Type 0
+BareRequest F input before refusal after = Called (requestTests bareSize) (Requested bareSize (BareOutcome F)) input before refusal after
 
-abbrev pub DecoratedRequest : Format → (input before : List ℕ) (number place : ℕ) (after : List ℕ) → Type 0
-DecoratedRequest F input before number place after =
-    Called (requestTests decoratedSize) (Requested decoratedSize (DecoratedOutcome F)) input before number place after
+abbrev pub DecoratedRequest : Format → (input before : List ℕ) (refusal : Refusal) (after : List ℕ) → Type 0
+DecoratedRequest F input before refusal after =
+    Called (requestTests decoratedSize) (Requested decoratedSize (DecoratedOutcome F)) input before refusal after
 
 -- "a codec (bare or decorated) reads one interval in one byte order and writes it in the other, place 1 with 4 to 6"
-abbrev pub BareCodec : Format → (from to : ByteOrder) (input before : List ℕ) (number place : ℕ) (after : List ℕ) → Type 0
-BareCodec F from to input before number place after =
-    Called (codecTests bareSize) (λ bs. Answered₁ (JudgedBytes F from) (λ x out. out ≡ writePair to (readPair from x)) bs) input before number place after
+abbrev pub BareCodec : Format → (from to : ByteOrder) (input before : List ℕ) (refusal : Refusal) (after : List ℕ) → Type 0
+BareCodec F from to input before refusal after =
+    Called (codecTests bareSize) (λ bs. Answered₁ (JudgedBytes F from) (λ x out. out ≡ writePair to (readPair from x)) bs) input before refusal after
 
-abbrev pub DecoratedCodec : Format → (from to : ByteOrder) (input before : List ℕ) (number place : ℕ) (after : List ℕ) → Type 0
-DecoratedCodec F from to input before number place after =
+abbrev pub DecoratedCodec : Format → (from to : ByteOrder) (input before : List ℕ) (refusal : Refusal) (after : List ℕ) → Type 0
+DecoratedCodec F from to input before refusal after =
     Called (codecTests decoratedSize)
-    (λ bs. Answered₁ (JudgedDecBytes F from) (λ x out. Written (writeDecorated to) (ReadDecorated F from x) out) bs) input before number place after
+    (λ bs. Answered₁ (JudgedDecBytes F from) (λ x out. Written (writeDecorated to) (ReadDecorated F from x) out) bs) input before refusal after

@@ -2,6 +2,7 @@
 use mathlib.Core.Path.{_≡_}
 use mathlib.Core.Logic.{_⊎_}
 use Prim.Native.Nat.{ℕ}
+use Rattle.refusals.specs.declared.Refusal.{Refusal}
 use Rattle.patterns.specs.Format.{Format, quietNaN}
 use Rattle.patterns.specs.Value.{Finite}
 use Rattle.meaning.specs.Fraction.{Fraction}
@@ -14,8 +15,16 @@ use Rattle.meaning.specs.Decorations.{Decoration, Ill, Trv, Com, Decorat
 
 -- A call is refused, "the answer is then the number and the place alone", or an answer is given.
 pub data Outcome (B : Type 0) : Type 0 where
-  refused : (number place : ℕ) → Outcome B
+  refused : Refusal → Outcome B
   given : B → Outcome B
+
+-- The refusal with a number and a place, of a call in which nothing has an index.
+abbrev pub refusalAt : (number place : ℕ) → Refusal
+refusalAt number place = record { number = number; place = place; index = 0 }
+
+-- "0: accepted". What a call says that refuses nothing.
+abbrev pub noRefusal : Refusal
+noRefusal = refusalAt 0 0
 
 -- What is found of one operand: nothing wrong, or the number of what is.
 pub data Verdict : Type 0 where
@@ -25,13 +34,20 @@ pub data Verdict : Type 0 where
 -- The outcome of a call with one operand, and with two: the first operand is judged before the second.
 -- `Judged` says what is found of an operand, and `Right` which answer is right for sound operands.
 pub data Answered₁ {A B : Type 0} (Judged : A → Verdict → Type 0) (Right : A → B → Type 0) (x : A) : Outcome B → Type 0 where
-  first₁ : {n : ℕ} → Judged x (wrong n) → Answered₁ Judged Right x (refused n 1)
+  first₁ : {n : ℕ} → Judged x (wrong n) → Answered₁ Judged Right x (refused (refusalAt n 1))
   right₁ : {z : B} → Judged x sound → Right x z → Answered₁ Judged Right x (given z)
 
 pub data Answered₂ {A B : Type 0} (Judged : A → Verdict → Type 0) (Right : A → A → B → Type 0) (x y : A) : Outcome B → Type 0 where
-  first₂ : {n : ℕ} → Judged x (wrong n) → Answered₂ Judged Right x y (refused n 1)
-  second₂ : {n : ℕ} → Judged x sound → Judged y (wrong n) → Answered₂ Judged Right x y (refused n 2)
+  first₂ : {n : ℕ} → Judged x (wrong n) → Answered₂ Judged Right x y (refused (refusalAt n 1))
+  second₂ : {n : ℕ} → Judged x sound → Judged y (wrong n) → Answered₂ Judged Right x y (refused (refusalAt n 2))
   right₂ : {z : B} → Judged x sound → Judged y sound → Right x y z → Answered₂ Judged Right x y (given z)
+
+-- What is found of operands before anything is done with them: a refusal as every call refuses, and nothing yet of sound ones.
+abbrev pub Found₁ : {A : Type 0} (Judged : A → Verdict → Type 0) → A → Outcome (Unit {0}) → Type 0
+Found₁ Judged x o = Answered₁ Judged (λ x u. Unit {0}) x o
+
+abbrev pub Found₂ : {A : Type 0} (Judged : A → Verdict → Type 0) → (x y : A) → Outcome (Unit {0}) → Type 0
+Found₂ Judged x y o = Answered₂ Judged (λ x y u. Unit {0}) x y o
 
 -- Bare operands. 5: "the ends are neither a proper pair, nor EMPTY's".
 -- "An interval passed by value is refused .. in the same way, except that a zero end of either sign is taken".

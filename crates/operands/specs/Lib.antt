@@ -1,3 +1,3 @@
 -- What the contracts of shared steps cite.
-pub mod Taken
+pub mod InTurn
 pub mod Sorted

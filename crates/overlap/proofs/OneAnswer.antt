@@ -37,7 +37,7 @@ numbered =
 
 answerOf : Outcome ℕ → OverlapAnswer
 answerOf (given n) = getD numbered n OverlapAnswer.Nai
-answerOf (refused n p) = OverlapAnswer.Refused n p
+answerOf (refused r) = OverlapAnswer.Refused r
 
 answer-back : (r : OverlapAnswer) → answerOf (overlapOutcome r) ≡ r
 unfolding answerOf numbered
@@ -58,7 +58,7 @@ answer-back (OverlapAnswer.Given Overlap.OverlappedBy) = refl
 answer-back (OverlapAnswer.Given Overlap.MetBy) = refl
 answer-back (OverlapAnswer.Given Overlap.After) = refl
 answer-back OverlapAnswer.Nai = refl
-answer-back (OverlapAnswer.Refused n p) = refl
+answer-back (OverlapAnswer.Refused r) = refl
 
 pub overlap-once : (F : Format) (x y : Pair) (r s : OverlapAnswer)
     → BareOverlap F x y (overlapOutcome r) → BareOverlap F x y (overlapOutcome s) → r ≡ s

@@ -33,4 +33,4 @@ decNumberOf DecState.Nai = 16
 abbrev pub overlapOutcome : OverlapAnswer → Outcome ℕ
 overlapOutcome (OverlapAnswer.Given s) = given (stateNumber (stateOf s))
 overlapOutcome OverlapAnswer.Nai = given 16
-overlapOutcome (OverlapAnswer.Refused n p) = refused n p
+overlapOutcome (OverlapAnswer.Refused r) = refused r

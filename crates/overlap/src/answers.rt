@@ -3,6 +3,7 @@ ghost use mathlib.Core.Path.{_≡_};
 ghost use Rattle.meaning.specs.Overlap.{stateNumber};
 ghost use Rattle.overlap.specs.Conversions.{stateOf, decNumberOf};
 use crate::state::Overlap;
+use refusals::Refusal;
 
 // The number of NaI, after those of the states.
 const NAI_NUMBER: u8 = 16;
@@ -17,7 +18,7 @@ pub enum OverlapAnswer {
     Given(Overlap),
     // An operand is NaI.
     Nai,
-    Refused(u32, u32),
+    Refused(Refusal),
 }
 
 // The states are numbered in the order declared.

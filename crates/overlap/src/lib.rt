@@ -16,9 +16,9 @@ pub use answers::dec_state_number;
 pub use answers::state_number;
 use dec_interval::DecInterval;
 use interval::Interval;
-use operands::Taken;
-use operands::take_two;
-use operands::take_two_dec;
+use interval::Verdict;
+use operands::judge_two;
+use operands::judge_two_dec;
 pub use state::Overlap;
 pub use valid::overlap_of;
 pub use valid::overlap_of_dec;
@@ -27,9 +27,9 @@ pub use valid::overlap_of_dec;
 pub fn overlap(x: Interval, y: Interval) -> OverlapAnswer
     ensures { λ r. ⌜ BareOverlap binary64 (pairOf x) (pairOf y) (overlapOutcome r) ⌝ }
 {
-    match take_two(x, y) {
-        Taken::Sound => OverlapAnswer::Given(overlap_of(x.ends, y.ends)),
-        Taken::Refused(n, place) => OverlapAnswer::Refused(n, place),
+    match judge_two(x, y) {
+        Verdict::Sound => OverlapAnswer::Given(overlap_of(x.ends, y.ends)),
+        Verdict::Refused(refusal) => OverlapAnswer::Refused(refusal),
     }
 }
 
@@ -37,11 +37,11 @@ pub fn overlap(x: Interval, y: Interval) -> OverlapAnswer
 pub fn overlap_dec(x: DecInterval, y: DecInterval) -> OverlapAnswer
     ensures { λ r. ⌜ DecOverlap binary64 (decPairOf x) (decPairOf y) (overlapOutcome r) ⌝ }
 {
-    match take_two_dec(x, y) {
-        Taken::Sound => match overlap_of_dec(x, y) {
+    match judge_two_dec(x, y) {
+        Verdict::Sound => match overlap_of_dec(x, y) {
             DecState::State(s) => OverlapAnswer::Given(s),
             DecState::Nai => OverlapAnswer::Nai,
         },
-        Taken::Refused(n, place) => OverlapAnswer::Refused(n, place),
+        Verdict::Refused(refusal) => OverlapAnswer::Refused(refusal),
     }
 }

@@ -10,17 +10,17 @@ use Rattle.meaning.specs.Bytes.{bigEndian, writeDecorated}
 use Rattle.meaning.specs.Requests.{zeros, decoratedSize, DecoratedRequest}
 use Rattle.meaning.proofs.OperationNumbers.{not-zero}
 use Rattle.cases.specs.Table.{two}
-use Rattle.meaning.specs.Statement.{refused}
-use Rattle.meaning.specs.Calls.{Left, failed, passed}
+use Rattle.meaning.specs.Statement.{refusalAt, noRefusal}
+use Rattle.meaning.specs.Calls.{Left}
 use Rattle.request_laws.specs.Calls.{Leaves}
 use Rattle.request_laws.specs.Chunk.{requestSize, replySize, part, Replied, Chunk}
 use Rattle.request_laws.proofs.PartLaws.{parts-agree}
-use Rattle.meaning.proofs.CalledLaws.{called-by}
+use Rattle.meaning.proofs.CalledLaws.{pass, stop}
 use Rattle.request_laws.proofs.OneOutcome.{decorated-request-once}
 use Rattle.request_laws.proofs.Examples.{decoratedSum, decorated-sum, common}
 
 abbrev reply : Left → List ℕ
-reply l = l .number ∷ l .place ∷ l .after
+reply l = l .refusal .number ∷ l .refusal .place ∷ l .after
 
 -- One reply to a request.
 replied-as : {request bytes : List ℕ} → Replied request bytes → (l : Left)
@@ -43,13 +43,13 @@ twoRequests = decoratedSum ++ zeros requestSize
 pub first-reply : {bytes : List ℕ} → Replied (part requestSize 0 twoRequests) bytes → getD bytes 0 0 ≡ 0
 first-reply h =
     ap (λ (l : List ℕ). getD l 0 0)
-    (replied-as h (record { number = 0; place = 0; after = writeDecorated bigEndian (common two) }) decorated-sum)
+    (replied-as h (record { refusal = noRefusal; after = writeDecorated bigEndian (common two) }) decorated-sum)
 
 pub second-reply : {bytes : List ℕ} → Replied (part requestSize 1 twoRequests) bytes → getD bytes 0 0 ≡ 3
 second-reply h =
     ap (λ (l : List ℕ). getD l 0 0)
-    (replied-as h (record { number = 3; place = 0; after = zeros decoratedSize })
-    (called-by (refused 3 0) (passed refl (passed refl (failed (λ k. not-zero (k .asked) (sym (k .asks .is))))))))
+    (replied-as h (record { refusal = refusalAt 3 0; after = zeros decoratedSize })
+    (pass refl (pass refl (stop (λ k. not-zero (k .asked) (sym (k .asks .is)))))))
 
 -- No run that answers the first request and repeats its reply answers every chunk for which there is room.
 pub no-repeating : (run : (count : ℕ) (input before : List ℕ) → List ℕ)

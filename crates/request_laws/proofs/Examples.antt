@@ -10,7 +10,7 @@ use Rattle.meaning.specs.Points.{add}
 use Rattle.meaning.specs.Results.{Result₂, point}
 use Rattle.meaning.specs.Pairs.{Bare, Canonical, minusInfinity, endOf, setOf}
 use Rattle.meaning.specs.Decorations.{Com}
-use Rattle.meaning.specs.Statement.{DecPair, given, sound, HullOf, RightDec₂, Answered₁, right₁, right₂, Decorated₂, Agrees, decoratedGood}
+use Rattle.meaning.specs.Statement.{DecPair, given, noRefusal, sound, HullOf, RightDec₂, Answered₁, right₁, right₂, Decorated₂, Agrees, decoratedGood}
 use Rattle.meaning.specs.Bytes.{ByteOrder, bigEndian, littleEndian, JudgedBytes, bytesGood, JudgedDecBytes, decBytesGood, canonicalEnds, ReadDecorated, readInterval, readPair, writePair, writeDecorated, Written}
 use Rattle.meaning.specs.Calls.{passed}
 use Rattle.meaning.specs.Requests.{binary, operationNumber, zeros, bareSize, decoratedSize, firstOperand, BareRequest, DecoratedRequest, BareCodec, DecoratedCodec}
@@ -33,7 +33,7 @@ one-canonical = record { bare = one-and-one .0; lowerZero = λ e. omega arith; u
 abbrev bareSum : List ℕ
 bareSum = operationNumber (binary (point add)) ∷ (writePair bigEndian (only one) ++ writePair bigEndian (only one))
 
-bare-sum : BareRequest binary64 bareSum (zeros bareSize) 0 0 (writePair bigEndian (only two))
+bare-sum : BareRequest binary64 bareSum (zeros bareSize) noRefusal (writePair bigEndian (only two))
 bare-sum =
     called-by (given (writePair bigEndian (only two)))
     (passed refl
@@ -75,7 +75,7 @@ one-read littleEndian = readInterval Com (record { is = refl }) (bare-not-nans b
 abbrev pub decoratedSum : List ℕ
 decoratedSum = operationNumber (binary (point add)) ∷ (writeDecorated bigEndian (common one) ++ writeDecorated bigEndian (common one))
 
-pub decorated-sum : DecoratedRequest binary64 decoratedSum (zeros decoratedSize) 0 0 (writeDecorated bigEndian (common two))
+pub decorated-sum : DecoratedRequest binary64 decoratedSum (zeros decoratedSize) noRefusal (writeDecorated bigEndian (common two))
 decorated-sum =
     called-by (given (writeDecorated bigEndian (common two)))
     (passed refl

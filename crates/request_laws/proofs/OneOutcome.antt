@@ -1,4 +1,4 @@
--- Two outcomes that satisfy the statement of a request or a codec are equal: number, place and the whole output.
+-- Two outcomes that satisfy the statement of a request or a codec are equal: the refusal and the whole output.
 use mathlib.Core.Path.{_≡_, sym, _∙_}
 use mathlib.Core.List.{List}
 use Prim.Native.Nat.{ℕ}

@@ -1,6 +1,6 @@
 -- From operands that were read to the outcome of a call, whatever is read and whatever is right.
 use mathlib.Core.Path.{_≡_, ap, subst}
-use Prim.Native.Nat.{ℕ}
+use Rattle.refusals.specs.declared.Refusal.{Refusal}
 use Rattle.meaning.specs.Statement.{Outcome, refused, given, Verdict, Answered₁, first₁, right₁, Answered₂, first₂, second₂, right₂}
 use Rattle.request_laws.specs.Reads.{BothRead}
 
@@ -18,7 +18,7 @@ module _ {A B C : Type 0} {Judged : A → Verdict → Type 0} {Read : A → B �
   after₁ (right₁ j r) next = right₁ j (next r)
 
   -- A refusal is the same whatever would be right.
-  pub refused₁ : {Right : A → C → Type 0} {x : A} {n p : ℕ} → Answered₁ Judged Read x (refused n p) → Answered₁ Judged Right x (refused n p)
+  pub refused₁ : {Right : A → C → Type 0} {x : A} {r : Refusal} → Answered₁ Judged Read x (refused r) → Answered₁ Judged Right x (refused r)
   refused₁ (first₁ j) = first₁ j
 
 module _ {A B C : Type 0} {Judged : A → Verdict → Type 0} {Read : A → A → B → Type 0} where
@@ -26,7 +26,7 @@ module _ {A B C : Type 0} {Judged : A → Verdict → Type 0} {Read : A → A �
       → Answered₂ Judged Right x y (given w)
   after₂ (right₂ j k r) next = right₂ j k (next r)
 
-  pub refused₂ : {Right : A → A → C → Type 0} {x y : A} {n p : ℕ} → Answered₂ Judged Read x y (refused n p) → Answered₂ Judged Right x y (refused n p)
+  pub refused₂ : {Right : A → A → C → Type 0} {x y : A} {r : Refusal} → Answered₂ Judged Read x y (refused r) → Answered₂ Judged Right x y (refused r)
   refused₂ (first₂ j) = first₂ j
   refused₂ (second₂ j k) = second₂ j k
 
@@ -35,9 +35,9 @@ module _ {A B : Type 0} {Judged : A → Verdict → Type 0} {Read : A → B → 
   pub both : {z w : B} → Answered₁ Judged Read x (given z) → Answered₁ Judged Read y (given w) → Answered₂ Judged (BothRead Read) x y (given (z, w))
   both (right₁ j r) (right₁ k s) = right₂ j k (r, s)
 
-  pub wrong-first : {n p : ℕ} → Answered₁ Judged Read x (refused n p) → Answered₂ Judged (BothRead Read) x y (refused n p)
+  pub wrong-first : {r : Refusal} → Answered₁ Judged Read x (refused r) → Answered₂ Judged (BothRead Read) x y (refused r)
   wrong-first (first₁ j) = first₂ j
 
-  pub wrong-second : {z : B} {n p : ℕ} → Answered₁ Judged Read x (given z) → Answered₁ Judged Read y (refused n p)
-      → Answered₂ Judged (BothRead Read) x y (refused n 2)
+  pub wrong-second : {z : B} {r : Refusal} → Answered₁ Judged Read x (given z) → Answered₁ Judged Read y (refused r)
+      → Answered₂ Judged (BothRead Read) x y (refused (record { number = r .number; place = 2; index = r .index }))
   wrong-second (right₁ j r) (first₁ k) = second₂ j k

@@ -3,6 +3,7 @@ use mathlib.Core.Path.{_≡_, sym, _∙_, subst}
 use mathlib.Core.List.{List}
 use Prim.Native.Nat.{ℕ}
 use lib.ListN.{length}
+use Rattle.refusals.specs.declared.Refusal.{Refusal}
 use Rattle.patterns.specs.Format.{Format}
 use Rattle.meaning.specs.Points.{Unary}
 use Rattle.meaning.specs.Statement.{Outcome}
@@ -43,9 +44,9 @@ module _ {size : ℕ} {op : Unary} {input other : List ℕ} (same : SameFirst si
   chain-moved before o (passed h (passed k (failed l))) = absurd (l (known (same .asks)))
   chain-moved before o (passed h (passed k (passed l r))) = passed (sym (same .long) ∙ h) (passed k (passed (known (same .asksToo)) (moved o r)))
 
-  call-moved : {before : List ℕ} {n p : ℕ} {after : List ℕ}
-      → Called (requestTests size) (Requested size Outcomes) input before n p after
-      → Called (requestTests size) (Requested size Outcomes) other before n p after
+  call-moved : {before : List ℕ} {r : Refusal} {after : List ℕ}
+      → Called (requestTests size) (Requested size Outcomes) input before r after
+      → Called (requestTests size) (Requested size Outcomes) other before r after
   call-moved {before} h = record { outcome = h .outcome; chain = chain-moved before (h .outcome) (h .chain); leaves = h .leaves }
 
 -- Both requests leave the same.

@@ -6,6 +6,7 @@ use Prim.Native.Nat.{ℕ}
 use borrow.Author.Tests.{eqb-false}
 use lib.Dec.{eqb}
 use lib.ListN.{take, getD}
+use Rattle.meaning.specs.Statement.{refusalAt, noRefusal}
 use Rattle.meaning.specs.Bytes.{ByteOrder, writePair}
 use Rattle.meaning.specs.Calls.{Left}
 use Rattle.meaning.specs.Requests.{bareSize}
@@ -22,7 +23,7 @@ ends l = take bareSize l
 -- output; one that refuses everything; one that answers ENTIRE, or EMPTY, always; one that hands back the first operand.
 pub data WrongCall (order : ByteOrder) (first : List ℕ → List ℕ) (input before : List ℕ) (l : Left) : Type 0 where
   neverWrites : l .after ≡ before → WrongCall order first input before l
-  refusesAll : (l .number ≡ 0 → ⊥) → WrongCall order first input before l
+  refusesAll : (l .refusal .number ≡ 0 → ⊥) → WrongCall order first input before l
   answersEntire : ends (l .after) ≡ writePair order entire → WrongCall order first input before l
   answersEmpty : ends (l .after) ≡ writePair order emptiness → WrongCall order first input before l
   handsBack : ends (l .after) ≡ ends (first input) → WrongCall order first input before l
@@ -32,7 +33,7 @@ pub record Shown (S : Statement) (order : ByteOrder) (first : List ℕ → List 
   pub input : List ℕ
   pub before : List ℕ
   pub out : List ℕ
-  pub right : S input before 0 0 out
+  pub right : S input before noRefusal out
   pub changes : out ≡ before → ⊥
   pub notEntire : ends out ≡ writePair order entire → ⊥
   pub notEmpty : ends out ≡ writePair order emptiness → ⊥
@@ -43,7 +44,7 @@ apart : (k : ℕ) (l m : List ℕ) → eqb (getD l k 0) (getD m k 0) ≡ false �
 apart k l m differ e = eqb-false (getD l k 0) (getD m k 0) differ (ap (λ (l : List ℕ). getD l k 0) e)
 
 -- An answer whose byte at a place is that of none of them.
-pub shown-at : (k : ℕ) {S : Statement} {order : ByteOrder} {first : List ℕ → List ℕ} (input before out : List ℕ) → S input before 0 0 out
+pub shown-at : (k : ℕ) {S : Statement} {order : ByteOrder} {first : List ℕ → List ℕ} (input before out : List ℕ) → S input before noRefusal out
     → eqb (getD out k 0) (getD before k 0) ≡ false → eqb (getD (ends out) k 0) (getD (writePair order entire) k 0) ≡ false
     → eqb (getD (ends out) k 0) (getD (writePair order emptiness) k 0) ≡ false → eqb (getD (ends out) k 0) (getD (ends (first input)) k 0) ≡ false
     → Shown S order first
@@ -63,16 +64,16 @@ shown-at k {S} {order} {first} input before out right changes notEntire notEmpty
 pub record NoneWrong (S : Statement) (order : ByteOrder) (first : List ℕ → List ℕ) : Type 0 where
   pub called : (call : Call) → ((input before : List ℕ) → WrongCall order first input before (call input before)) → Meets S call → ⊥
   pub exported : (result : (input before : List ℕ) → ℕ) (after : (input before : List ℕ) → List ℕ)
-      → ((input before : List ℕ) → WrongCall order first input before (record { number = result input before; place = 0; after = after input before }))
+      → ((input before : List ℕ) → WrongCall order first input before (record { refusal = refusalAt (result input before) 0; after = after input before }))
       → ((input before : List ℕ) → Packed S input before (result input before) (after input before)) → ⊥
 
 module _ {S : Statement} {order : ByteOrder} {first : List ℕ → List ℕ} (once : OneLeft S) (shown : Shown S order first) where
   abbrev rightLeft : Left
-  rightLeft = record { number = 0; place = 0; after = shown .out }
+  rightLeft = record { refusal = noRefusal; after = shown .out }
 
   not-wrong : {l : Left} → l ≡ rightLeft → WrongCall order first (shown .input) (shown .before) l → ⊥
   not-wrong e (neverWrites h) = shown .changes (sym (ap (λ (l : Left). l .after) e) ∙ h)
-  not-wrong e (refusesAll refuses) = refuses (ap (λ (l : Left). l .number) e)
+  not-wrong e (refusesAll refuses) = refuses (ap (λ (l : Left). l .refusal .number) e)
   not-wrong e (answersEntire h) = shown .notEntire (sym (ap (λ (l : Left). ends (l .after)) e) ∙ h)
   not-wrong e (answersEmpty h) = shown .notEmpty (sym (ap (λ (l : Left). ends (l .after)) e) ∙ h)
   not-wrong e (handsBack h) = shown .notFirst (sym (ap (λ (l : Left). ends (l .after)) e) ∙ h)
@@ -82,7 +83,7 @@ module _ {S : Statement} {order : ByteOrder} {first : List ℕ → List ℕ} (on
   none-wrong =
       let input = shown .input in
       let before = shown .before in
-      let right : Packed S input before 0 (shown .out) = record { number = 0; place = 0; is = refl; called = shown .right } in
+      let right : Packed S input before 0 (shown .out) = record { refusal = noRefusal; is = refl; called = shown .right } in
       record {
         called =
             λ call wrong meets.
@@ -90,5 +91,5 @@ module _ {S : Statement} {order : ByteOrder} {first : List ℕ → List ℕ} (on
         exported =
             λ result after wrong meets.
             let (number, output) = packed-once once input before (meets input before) right in
-            not-wrong (λ i. record { number = number i; place = 0; after = output i }) (wrong input before);
+            not-wrong (λ i. record { refusal = refusalAt (number i) 0; after = output i }) (wrong input before);
       }

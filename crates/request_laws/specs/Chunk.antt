@@ -22,7 +22,7 @@ part size i bs = take size (drop (size * i) bs)
 pub record Replied (request reply : List ℕ) : Type 0 where
   pub left : Left
   pub called : Leaves (DecoratedRequest binary64) request (zeros decoratedSize) left
-  pub is : reply ≡ left .number ∷ left .place ∷ left .after
+  pub is : reply ≡ left .refusal .number ∷ left .refusal .place ∷ left .after
 
 -- A chunk of `count` requests: each reply answers its own request, and the rest of the output is as it was.
 pub record Chunk (count : ℕ) (input before after : List ℕ) : Type 0 where

@@ -5,7 +5,7 @@ use Prim.Native.Nat.{ℕ, _<_}
 use lib.ListN.{length}
 use lib.Seq.{ext-getD}
 use Rattle.patterns.specs.Format.{binary64}
-use Rattle.meaning.specs.Statement.{given}
+use Rattle.meaning.specs.Statement.{given, refusalAt}
 use Rattle.meaning.specs.Calls.{Left}
 use Rattle.meaning.proofs.Unique.{One}
 use Rattle.meaning.proofs.CalledLaws.{called-once}
@@ -29,5 +29,5 @@ module _ {o : Operation} {a b : List ℕ} where
   pub filled-once : {before : List ℕ} (n n′ : ℕ) (after after′ : List ℕ) → FilledOrRefused o a b before n after → FilledOrRefused o a b before n′ after′
       → (n ≡ n′) × (after ≡ after′)
   filled-once n n′ after after′ h k =
-      let same = called-once filled-by-once (record { number = n; place = 0; after = after }) (record { number = n′; place = 0; after = after′ }) h k in
-      (ap (λ (l : Left). l .number) same, ap (λ (l : Left). l .after) same)
+      let same = called-once filled-by-once (record { refusal = refusalAt n 0; after = after }) (record { refusal = refusalAt n′ 0; after = after′ }) h k in
+      (ap (λ (l : Left). l .refusal .number) same, ap (λ (l : Left). l .after) same)

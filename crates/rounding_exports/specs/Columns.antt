@@ -5,7 +5,7 @@ use Prim.Native.Nat.{ℕ, _<_}
 use lib.ListN.{length, getD}
 use Rattle.patterns.specs.Format.{binary64}
 use Rattle.patterns.specs.Rounding.{Up}
-use Rattle.meaning.specs.Statement.{Outcome, given}
+use Rattle.meaning.specs.Statement.{Outcome, given, refusalAt}
 use Rattle.meaning.specs.Calls.{Test, Called}
 use Rattle.rounding_runs.specs.Operations.{Takes, exactOf}
 use Rattle.rounding_runs.specs.declared.roundings.Operation.{Operation}
@@ -43,4 +43,4 @@ pub data FilledBy (o : Operation) (columns : Columns) : Outcome (List ℕ) → T
 -- What a call leaves, its number and the whole column of answers. No place is said.
 abbrev pub FilledOrRefused : Operation → (a b before : List ℕ) (number : ℕ) (after : List ℕ) → Type 0
 FilledOrRefused o a b before number after =
-    Called (operandsAgree ∷ answersFit ∷ rowsTaken o ∷ []) (FilledBy o) (record { first = a; second = b }) before number 0 after
+    Called (operandsAgree ∷ answersFit ∷ rowsTaken o ∷ []) (FilledBy o) (record { first = a; second = b }) before (refusalAt number 0) after

@@ -10,7 +10,7 @@
 //  the interval part that NaI lacks        | zeros, and 255 last
 use crate::values::Operand;
 use crate::values::ends_of;
-use calls::BARE;
+use calls::REPLY;
 use classify::IntervalClass;
 use dec_interval::DecAnswer;
 use dec_interval::DecInterval;
@@ -21,24 +21,19 @@ use end_bytes::ByteOrder;
 use end_bytes::read_ends;
 use end_bytes::write_ends;
 use end_pairs::EndPair;
+use interchange::BARE;
 use interchange::bare::BytesAnswer;
 use interchange::decorated::DecBytesAnswer;
-use interval::ACCEPTED;
 use interval::Answer;
-use interval::BAD_BYTE;
 use interval::BoolAnswer;
 use interval::ClassAnswer;
 use interval::EndAnswer;
-use interval::FIRST;
 use interval::Interval;
-use interval::NO_PLACE;
-use interval::SECOND;
 use overlap::DecState;
 use overlap::OverlapAnswer;
 use overlap::dec_state_number;
-
-// The bytes of a reply.
-pub const REPLY: usize = 19;
+use refusals::Refusal;
+use refusals::SECOND;
 
 // Where the number, the place, the ends and the last byte stand in a reply.
 const NUMBER_AT: usize = 0;
@@ -52,36 +47,31 @@ const LAST_AT: usize = 18;
 // Stands last, and is no decoration's byte, where NaI has no interval part.
 const MISSING: u8 = 255;
 
-// Document 01's number for a function number that no function has.
-const UNKNOWN_FUNCTION: u32 = 3;
-
 // How many values a byte has.
 const BASE: u32 = 256;
 
 // What the first of eight bytes weighs.
 const FIRST_BYTE: u64 = 0x0100_0000_0000_0000;
 
-// A reply before it is written: number, place, sixteen bytes as two patterns, and the last byte.
+// A reply before it is written: the refusal, sixteen bytes as two patterns, and the last byte.
 pub struct Said {
-    pub number: u32,
-    pub place: u32,
+    pub refusal: Refusal,
     pub ends: EndPair,
     pub last: u8,
 }
 
 const NO_ENDS: EndPair = EndPair { a: 0, b: 0 };
 
-pub fn refused(number: u32, place: u32) -> Said {
+pub fn refused(refusal: Refusal) -> Said {
     Said {
-        number,
-        place,
+        refusal,
         ends: NO_ENDS,
         last: 0,
     }
 }
 
 pub fn unknown_function() -> Said {
-    refused(UNKNOWN_FUNCTION, NO_PLACE)
+    refused(Refusal::UNKNOWN_OPERATION)
 }
 
 // The reply to a call that takes a decoration, unless the operand's byte is no decoration's.
@@ -89,16 +79,20 @@ pub fn if_known(x: Operand, reply: Said) -> Said {
     if x.known {
         return reply;
     }
-    refused(BAD_BYTE, FIRST)
+    refused(Refusal::BAD_BYTE)
 }
 
 // The same for two operands.
 pub fn if_both_known(x: Operand, y: Operand, reply: Said) -> Said {
     if !x.known {
-        return refused(BAD_BYTE, FIRST);
+        return refused(Refusal::BAD_BYTE);
     }
     if !y.known {
-        return refused(BAD_BYTE, SECOND);
+        return refused(Refusal {
+            number: Refusal::BAD_BYTE.number,
+            place: SECOND,
+            index: 0,
+        });
     }
     reply
 }
@@ -106,8 +100,7 @@ pub fn if_both_known(x: Operand, y: Operand, reply: Said) -> Said {
 // The ends are written as they are, so that a zero of the wrong sign shows.
 fn accepted(ends: EndPair, last: u8) -> Said {
     Said {
-        number: ACCEPTED,
-        place: NO_PLACE,
+        refusal: Refusal::NONE,
         ends,
         last,
     }
@@ -134,14 +127,14 @@ pub fn decorated_interval(x: DecInterval) -> Said {
 pub fn bare(r: Answer) -> Said {
     match r {
         Answer::Given(x) => bare_interval(x),
-        Answer::Refused(n, place) => refused(n, place),
+        Answer::Refused(refusal) => refused(refusal),
     }
 }
 
 pub fn decorated(r: DecAnswer) -> Said {
     match r {
         DecAnswer::Given(x) => decorated_interval(x),
-        DecAnswer::Refused(n, place) => refused(n, place),
+        DecAnswer::Refused(refusal) => refused(refusal),
     }
 }
 
@@ -152,21 +145,21 @@ fn flag(b: bool) -> u8 {
 pub fn truth(r: BoolAnswer) -> Said {
     match r {
         BoolAnswer::Given(b) => one_byte(flag(b)),
-        BoolAnswer::Refused(n, place) => refused(n, place),
+        BoolAnswer::Refused(refusal) => refused(refusal),
     }
 }
 
 pub fn end(r: EndAnswer) -> Said {
     match r {
         EndAnswer::Given(e) => first_word(e),
-        EndAnswer::Refused(n, place) => refused(n, place),
+        EndAnswer::Refused(refusal) => refused(refusal),
     }
 }
 
 pub fn decoration(r: DecorationAnswer) -> Said {
     match r {
         DecorationAnswer::Given(d) => one_byte(decoration_byte(d)),
-        DecorationAnswer::Refused(n, place) => refused(n, place),
+        DecorationAnswer::Refused(refusal) => refused(refusal),
     }
 }
 
@@ -174,7 +167,7 @@ pub fn part(r: PartAnswer) -> Said {
     match r {
         PartAnswer::Given(x) => bare_interval(x),
         PartAnswer::Missing => accepted(NO_ENDS, MISSING),
-        PartAnswer::Refused(n, place) => refused(n, place),
+        PartAnswer::Refused(refusal) => refused(refusal),
     }
 }
 
@@ -193,7 +186,7 @@ fn class_number(c: IntervalClass) -> u8 {
 pub fn class(r: ClassAnswer) -> Said {
     match r {
         ClassAnswer::Given(c) => one_byte(class_number(c)),
-        ClassAnswer::Refused(n, place) => refused(n, place),
+        ClassAnswer::Refused(refusal) => refused(refusal),
     }
 }
 
@@ -201,19 +194,19 @@ pub fn state(r: OverlapAnswer) -> Said {
     match r {
         OverlapAnswer::Given(s) => one_byte(dec_state_number(DecState::State(s))),
         OverlapAnswer::Nai => one_byte(dec_state_number(DecState::Nai)),
-        OverlapAnswer::Refused(n, place) => refused(n, place),
+        OverlapAnswer::Refused(refusal) => refused(refusal),
     }
 }
 
 fn sixteen(bytes: [u8; BARE]) -> EndPair {
-    read_ends(&bytes, ByteOrder::Big)
+    read_ends(&bytes, 0, ByteOrder::Big)
 }
 
 pub fn bare_bytes(r: BytesAnswer) -> Said {
     let bytes = r.bytes;
+    let refusal = r.refusal;
     Said {
-        number: r.number,
-        place: r.place,
+        refusal,
         ends: sixteen(bytes),
         last: 0,
     }
@@ -221,9 +214,9 @@ pub fn bare_bytes(r: BytesAnswer) -> Said {
 
 pub fn decorated_bytes(r: DecBytesAnswer) -> Said {
     let bytes = r.bytes;
+    let refusal = r.refusal;
     Said {
-        number: r.number,
-        place: r.place,
+        refusal,
         ends: ends_of(bytes),
         last: bytes[BARE],
     }
@@ -236,8 +229,8 @@ fn low_byte(n: u32) -> u8 {
 pub fn written(s: Said) -> [u8; REPLY] {
     let ends = s.ends;
     let mut reply = [0u8; REPLY];
-    reply[NUMBER_AT] = low_byte(s.number);
-    reply[PLACE_AT] = low_byte(s.place);
+    reply[NUMBER_AT] = low_byte(s.refusal.number);
+    reply[PLACE_AT] = low_byte(s.refusal.place);
     write_ends(&mut reply[ENDS_AT..], ends, ByteOrder::Big);
     reply[LAST_AT] = s.last;
     reply

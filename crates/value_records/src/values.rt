@@ -1,16 +1,16 @@
 // Operands by value, made of a record's bytes and not judged.
-use calls::DECORATED;
+ghost use Prim.Native.Nat.{_+_, _≤_};
+ghost use lib.ListN.{length};
 use dec_interval::DecInterval;
 use decorations::Decoration;
 use end_bytes::ByteOrder;
 use end_bytes::read_ends;
 use end_pairs::EndPair;
-use interchange::decorated::ByteDecoration;
-use interchange::decorated::decoration_of;
+use interchange::BARE;
+use interchange::ByteDecoration;
+use interchange::DECORATED;
+use interchange::decoration_of;
 use interval::Interval;
-
-// Where the decoration's byte stands in an operand.
-const DECORATION_AT: usize = 16;
 
 // What is passed: a decorated interval, and whether its byte is a decoration's. If it is none, Ill stands in for it.
 pub struct Operand {
@@ -20,7 +20,17 @@ pub struct Operand {
 
 // The two patterns at the front of an operand, or of an answer.
 pub(crate) fn ends_of(bytes: [u8; DECORATED]) -> EndPair {
-    read_ends(&bytes, ByteOrder::Big)
+    read_ends(&bytes, 0, ByteOrder::Big)
+}
+
+// The operand that starts at a position of a record.
+pub fn operand_at(input: &[u8], start: usize) -> [u8; DECORATED]
+    requires { ⌜ start + 17 ≤ length (now input) ⌝ }
+{
+    let mut operand = [0u8; DECORATED];
+    let end = start + DECORATED;
+    bytes::copy(&input[start..end], &mut operand);
+    operand
 }
 
 fn with_decoration(ends: EndPair, d: Decoration) -> DecInterval {
@@ -30,7 +40,7 @@ fn with_decoration(ends: EndPair, d: Decoration) -> DecInterval {
 
 pub fn operand_of(bytes: [u8; DECORATED]) -> Operand {
     let ends = ends_of(bytes);
-    match decoration_of(bytes[DECORATION_AT]) {
+    match decoration_of(bytes[BARE]) {
         ByteDecoration::Known(d) => Operand {
             value: with_decoration(ends, d),
             known: true,

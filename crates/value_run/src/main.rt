@@ -16,27 +16,25 @@
 // A reply is nineteen bytes: number, place and answer (crates/value_records/src/replies.rt). Number 3 says that no function has the
 // record's number, and 4 with a place that an operand of which the function takes the decoration has a byte that is none. A last
 // piece that is no whole record gets number 1.
-use calls::DECORATED;
-use calls::decorated_at;
-use interval::NO_PLACE;
+use calls::DECORATED_REQUEST;
+use interchange::DECORATED;
 use libc::STDIN_FILENO;
 use libc::STDOUT_FILENO;
+use refusals::Refusal;
 use value_records::replies::Said;
 use value_records::replies::refused;
 use value_records::replies::unknown_function;
 use value_records::replies::written;
+use value_records::values::operand_at;
 use value_records::values::operand_of;
 
 // The bytes of a record.
-const RECORD: usize = 35;
+const RECORD: usize = DECORATED_REQUEST;
 
 // Where the operands stand in a record.
 const FIRST_AT: usize = 1;
 
-const SECOND_AT: usize = 18;
-
-// Document 01's number for a last piece, which is no whole record.
-const TOO_SHORT: u32 = 1;
+const SECOND_AT: usize = FIRST_AT + DECORATED;
 
 // How many numbers a group of functions has, and the groups in order.
 const GROUP: u8 = 32;
@@ -80,12 +78,12 @@ fn answer_next() -> bool {
         return false;
     }
     if arrived < RECORD {
-        let reply = written(refused(TOO_SHORT, NO_PLACE));
+        let reply = written(refused(Refusal::WRONG_LENGTH));
         io::write_all(STDOUT_FILENO, &reply);
         return false;
     }
-    let first = decorated_at(&input, FIRST_AT);
-    let second = decorated_at(&input, SECOND_AT);
+    let first = operand_at(&input, FIRST_AT);
+    let second = operand_at(&input, SECOND_AT);
     let reply = written(answer(input[0], first, second));
     io::write_all(STDOUT_FILENO, &reply)
 }

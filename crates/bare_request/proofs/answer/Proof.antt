@@ -1,39 +1,35 @@
--- `answer` meets its contract: what the number asks for is done with the operands at their places.
-use mathlib.Core.Path.{refl}
+-- `answer` meets its contract: what the number asks for is done.
 use borrow.Author.Needs.{needs}
-use Rattle.meaning.specs.Requests.{unary, binary, overlap, secondOperand, bareSize}
+use Rattle.meaning.specs.Requests.{unary, binary, overlap}
+use Rattle.meaning.proofs.CalledLaws.{stop}
 use Rattle.operations.specs.Names.{unaryOf, binaryOf}
 use Rattle.operations.proofs.AskedLaws.{one-asked, two-asked, overlap-asked, nothing-asked}
-use Rattle.meaning.specs.Calls.{failed}
 use Rattle.request_laws.proofs.RequestedLaws.{requested}
-use Rattle.bare_request.specs.Conversions.{outcomeOf}
 use Rattle.bare_request.proofs.answer.Statement.{statement}
 use Rattle.bare_request.proofs.answer.Tie as tie
 
 returns : tie.Need-returns
 returns c =
-    let told = c .before .before .before in
-    requested (unary (unaryOf (told .f .given .0 .0))) (one-asked (told .before .before .numbered .ensures) (told .f .given .1)) (c .before .bare-at .ensures)
-    refl (c .one-operand .ensures (secondOperand bareSize (told .before .before .before .before .before .args .input .now)))
+    let told = c .before .before .before .before .before in
+    requested (unary (unaryOf (told .f .given .0 .0))) (one-asked (told .before .before .numbered .ensures) (told .f .given .1))
+    (c .before .before .one-operand .ensures)
 
 returns-2 : tie.Need-returns-2
 returns-2 c =
-    let told = c .before .before .before .before in
-    requested (binary (binaryOf (told .o .given .0 .0))) (two-asked (told .before .before .numbered .ensures) (told .o .given .1)) (c .before .before .bare-at2 .ensures)
-    (c .before .bare-at3 .ensures) (c .two-operands .ensures)
+    let told = c .before .before .before .before .before in
+    requested (binary (binaryOf (told .o .given .0 .0))) (two-asked (told .before .before .numbered .ensures) (told .o .given .1))
+    (c .before .before .two-operands .ensures)
 
 returns-3 : tie.Need-returns-3
 returns-3 c =
-    let told = c .before .before .before in
-    requested overlap (overlap-asked (told .before .before .numbered .ensures) (told .enum-told .given .1)) (c .before .before .bare-at4 .ensures)
-    (c .before .bare-at5 .ensures) (c .overlap-state .ensures)
+    let told = c .before .before .before .before in
+    requested overlap (overlap-asked (told .before .before .numbered .ensures) (told .enum-told .given .1)) (c .before .before .overlap-state .ensures)
 
 returns-4 : tie.Need-returns-4
-unfolding outcomeOf
-returns-4 c = failed (λ k. nothing-asked (c .before .before .numbered .ensures) (c .enum-told2 .given .1) (k .asked) (k .asks .is))
+returns-4 c = stop (λ k. nothing-asked (c .before .before .numbered .ensures) (c .enum-told2 .given .1) (k .asked) (k .asks .is))
 
 pub answer-spec : {M : Type 1} → statement M
 answer-spec =
     tie.close (tie.spec (search needs) (search needs) (search needs) (search needs) (search needs) (search needs)
-    (search needs) (search needs) (search needs) (search needs) (search needs) (search needs) (search needs)
-    (search needs) returns returns-2 returns-3 returns-4)
+    (search needs) (search needs) (search needs) (search needs) returns (search needs) returns-2 (search needs)
+    returns-3 returns-4)

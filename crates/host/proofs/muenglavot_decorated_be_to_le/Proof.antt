@@ -10,4 +10,4 @@ packed-requires : tie.Need-packed-requires
 packed-requires c κs = decorated-codec-small binary64 bigEndian littleEndian (c .before .before .decorated-be-to-le .ensures)
 
 pub muenglavot-decorated-be-to-le-spec : {M : Type 1} → statement M
-muenglavot-decorated-be-to-le-spec = tie.close (tie.spec (search needs) packed-requires (search needs) (search needs))
+muenglavot-decorated-be-to-le-spec = tie.close (tie.spec (search needs) packed-requires (search needs) (λ c. search needs))

@@ -10,4 +10,4 @@ packed-requires : tie.Need-packed-requires
 packed-requires c κs = decorated-codec-small binary64 littleEndian bigEndian (c .before .before .decorated-le-to-be .ensures)
 
 pub muenglavot-decorated-le-to-be-spec : {M : Type 1} → statement M
-muenglavot-decorated-le-to-be-spec = tie.close (tie.spec (search needs) packed-requires (search needs) (search needs))
+muenglavot-decorated-le-to-be-spec = tie.close (tie.spec (search needs) packed-requires (search needs) (λ c. search needs))

@@ -9,4 +9,4 @@ packed-requires : tie.Need-packed-requires
 packed-requires c κs = bare-request-small binary64 (c .before .before .request-bare .ensures)
 
 pub muenglavot-request-bare-spec : {M : Type 1} → statement M
-muenglavot-request-bare-spec = tie.close (tie.spec (search needs) packed-requires (search needs) (search needs))
+muenglavot-request-bare-spec = tie.close (tie.spec (search needs) packed-requires (search needs) (λ c. search needs))

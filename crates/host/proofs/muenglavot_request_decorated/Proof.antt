@@ -9,4 +9,4 @@ packed-requires : tie.Need-packed-requires
 packed-requires c κs = decorated-request-small binary64 (c .before .before .request-decorated .ensures)
 
 pub muenglavot-request-decorated-spec : {M : Type 1} → statement M
-muenglavot-request-decorated-spec = tie.close (tie.spec (search needs) packed-requires (search needs) (search needs))
+muenglavot-request-decorated-spec = tie.close (tie.spec (search needs) packed-requires (search needs) (λ c. search needs))

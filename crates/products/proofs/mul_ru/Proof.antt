@@ -49,4 +49,4 @@ returns-3 c =
 pub mul-ru-spec : {M : Type 1} → statement M
 mul-ru-spec =
     tie.close (tie.spec returns returns-2 (search needs) normalise-requires normalise-requires-2 (search needs)
-    (search needs) returns-3)
+    (λ c κs. search needs) returns-3)

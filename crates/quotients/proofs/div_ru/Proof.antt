@@ -48,5 +48,5 @@ returns-2 c =
 
 pub div-ru-spec : {M : Type 1} → statement M
 div-ru-spec =
-    tie.close (tie.spec returns (search needs) normalise-requires normalise-requires-2 (search needs) (search needs)
+    tie.close (tie.spec returns (search needs) normalise-requires normalise-requires-2 (search needs) (λ c κs. search needs)
     returns-2)

@@ -29,4 +29,4 @@ returns c =
     (c .round-up .ensures _ 1 (lit< tt) (c .before .combined .ensures .1 .1)))
 
 pub ordered-spec : {M : Type 1} → statement M
-ordered-spec = tie.close (tie.spec (search needs) combined-requires (search needs) returns)
+ordered-spec = tie.close (tie.spec (search needs) combined-requires (λ c κs. search needs) returns)

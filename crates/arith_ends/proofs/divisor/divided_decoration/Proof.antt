@@ -8,4 +8,4 @@ returns : tie.Need-returns
 returns c = rw (c .allowed .ensures) (class-allows (c .before .classify .ensures))
 
 pub divided-decoration-spec : {M : Type 1} → statement M
-divided-decoration-spec = tie.close (tie.spec (search needs) (search needs) returns)
+divided-decoration-spec = tie.close (tie.spec (λ c κs. search needs) (search needs) returns)

@@ -7,24 +7,29 @@ use Rattle.meaning.specs.Statement.{HullOf}
 use Rattle.meaning.specs.Bytes.{bigEndian, writePair}
 use Rattle.operations.specs.Names.{unaryOf}
 use Rattle.interval.specs.Conversions.{outcome}
+use Rattle.meaning.proofs.CalledLaws.{written, refusing}
 use Rattle.request_laws.proofs.ReadLaws.{found₁, after₁, refused₁}
-use Rattle.bare_request.specs.Conversions.{outcomeOf}
 use Rattle.bare_request.proofs.SoundOperands.{one-sound, write₁}
 use Rattle.bare_request.proofs.operation.one_operand.Statement.{statement}
 use Rattle.bare_request.proofs.operation.one_operand.Tie as tie
 
 image-requires : tie.Need-image-requires
-image-requires c κs = one-sound (found₁ outcome (c .before .before .before .try-from-be-bytes .ensures) (c .before .x .given .1))
+image-requires c κs = one-sound (found₁ outcome (c .before .before .before .read-bare .ensures) (c .before .x .given .1))
 
 returns : tie.Need-returns
-unfolding outcomeOf
 returns c =
-    λ second. after₁ (found₁ outcome (c .before .before .before .before .try-from-be-bytes .ensures) (c .before .before .x .given .1))
-    (write₁ (writePair bigEndian) (λ x z. HullOf binary64 (Result₁ (unaryOf (c .before .before .before .before .before .args .f)) (setOf binary64 x)) z) (c .image .ensures))
+    let made = c .before .before .before .before in
+    let told = made .before .before in
+    let read = told .before .before in
+    let a = read .before .before .before .args in
+    written (after₁ (found₁ outcome (read .read-bare .ensures) (told .x .given .1))
+    (write₁ (writePair bigEndian) (λ x z. HullOf binary64 (Result₁ (unaryOf (a .f)) (setOf binary64 x)) z) (made .image .ensures)))
+    (c .before .before .write-bare .ensures)
 
 returns-2 : tie.Need-returns-2
-unfolding outcomeOf
-returns-2 c = λ second. refused₁ (found₁ outcome (c .before .before .before .try-from-be-bytes .ensures) (c .before .n .given .1))
+returns-2 c = refusing (refused₁ (found₁ outcome (c .before .before .before .read-bare .ensures) (c .before .refusal .given .1)))
 
 pub one-operand-spec : {M : Type 1} → statement M
-one-operand-spec = tie.close (tie.spec (search needs) (search needs) image-requires (search needs) returns returns-2)
+one-operand-spec =
+    tie.close (tie.spec (search needs) (search needs) image-requires (search needs) (search needs) (search needs)
+    returns returns-2)

@@ -8,7 +8,7 @@ use lib.ListN.{length}
 use Rattle.patterns.specs.Format.{binary64}
 use Rattle.meaning.specs.Requests.{zeros, decoratedSize}
 use Rattle.request_laws.proofs.SmallLaws.{decorated-request-small}
-use Rattle.calls.proofs.PlaceLaws.{copied-over}
+use Rattle.calls.proofs.ZeroLaws.{copied-over}
 use Rattle.bench_turn.proofs.chunk.reply.Statement.{statement}
 use Rattle.bench_turn.proofs.chunk.reply.Tie as tie
 
@@ -26,7 +26,7 @@ returns c =
     let copied : c .before .copy .last .1 .0 ++ [] ≡ answer =
     append-nil (c .before .copy .last .1 .0) ∙ c .before .copy .ensures .1 ∙ copied-over (length answer) answer (zeros decoratedSize) refl seventeen in
     record {
-      left = record { number = called .result .number; place = called .result .place; after = answer };
+      left = record { refusal = called .result; after = answer };
       called = called .ensures;
       is = ap (λ (l : List ℕ). called .result .number ∷ called .result .place ∷ l) copied;
     }

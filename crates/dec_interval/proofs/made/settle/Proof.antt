@@ -23,4 +23,4 @@ returns-2 c =
     (subst⁻¹ (Tidied binary64 _) (c .before .from-ends .ensures) (c .before .before .canonical .ensures)) (c .settled .ensures)
 
 pub settle-spec : {M : Type 1} → statement M
-settle-spec = tie.close (tie.spec (search needs) returns (search needs) from-ends-requires (search needs) returns-2)
+settle-spec = tie.close (tie.spec (search needs) returns (λ c κs. search needs) from-ends-requires (λ c κs. search needs) returns-2)

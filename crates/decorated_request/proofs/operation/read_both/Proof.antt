@@ -9,16 +9,16 @@ returns : tie.Need-returns
 returns c =
     let second = c .before .before .before in
     let first = second .before .before .before .before in
-    both (found₁ decOutcome (first .try-from-be-bytes .ensures) (second .before .before .x .given .1)) (found₁ decOutcome (second .try-from-be-bytes2 .ensures) (c .before .y .given .1))
+    both (found₁ decOutcome (first .read-decorated .ensures) (second .before .before .x .given .1)) (found₁ decOutcome (second .read-decorated2 .ensures) (c .before .y .given .1))
 
 returns-2 : tie.Need-returns-2
 returns-2 c =
     let second = c .before .before .before in
     let first = second .before .before .before .before in
-    wrong-second (found₁ decOutcome (first .try-from-be-bytes .ensures) (second .before .before .x .given .1)) (found₁ decOutcome (second .try-from-be-bytes2 .ensures) (c .before .n .given .1))
+    wrong-second (found₁ decOutcome (first .read-decorated .ensures) (second .before .before .x .given .1)) (found₁ decOutcome (second .read-decorated2 .ensures) (c .before .refusal .given .1))
 
 returns-3 : tie.Need-returns-3
-returns-3 c = wrong-first (found₁ decOutcome (c .before .before .before .try-from-be-bytes .ensures) (c .before .n2 .given .1))
+returns-3 c = wrong-first (found₁ decOutcome (c .before .before .before .read-decorated .ensures) (c .before .refusal2 .given .1))
 
 pub read-both-spec : {M : Type 1} → statement M
 read-both-spec =

@@ -17,4 +17,4 @@ returns c =
     ∙ settled-lower (setOf binary64 (pairOf (a .x))) (decorationOf (a .d))
 
 pub settled-spec : {M : Type 1} → statement M
-settled-spec = tie.close (tie.spec (search needs) (search needs) returns)
+settled-spec = tie.close (tie.spec (λ c κs. search needs) (search needs) returns)

@@ -13,17 +13,12 @@ use Rattle.end_bytes.proofs.ends.write_ends.Tie as tie
 returns : tie.Need-returns
 returns c =
     let second = c .before .before in
-    let first = second .before .before .before .before .before .before in
-    let a = first .before .before .before .before .before .args in
-    let o = orderOf (a .order) in
-    let lower = first .before .in-order .ensures ∙ ap (inOrder o) (first .before .before .to-digits .ensures) in
-    let upper = second .before .in-order2 .ensures ∙ ap (inOrder o) (second .before .before .to-digits2 .ensures) in
-    let eight : length (first .before .in-order .result) ≡ 8 = search needs in
-    placed-both (a .s .now) (first .before .in-order .result) (second .before .in-order2 .result) _ _ eight
+    let first = second .before .before .before .before .before in
+    let a = first .before .before .before .before .args in
+    placed-both (a .s .now) (first .before .write-end .result) (second .before .write-end2 .result) _ _ (search needs)
     (first .put-eight .ensures) (second .put-eight2 .ensures)
-    ∙ ap (λ (t : List ℕ). t ++ drop 16 (a .s .now)) (ap₂ _++_ lower upper)
+    ∙ ap (λ (t : List ℕ). t ++ drop 16 (a .s .now)) (ap₂ _++_ (first .before .write-end .ensures) (second .before .write-end2 .ensures))
 
 pub write-ends-spec : {M : Type 1} → statement M
 write-ends-spec =
-    tie.close (tie.spec (search needs) (search needs) (search needs) (search needs) (search needs) (search needs)
-    (search needs) returns)
+    tie.close (tie.spec (search needs) (search needs) (search needs) (search needs) (search needs) returns)

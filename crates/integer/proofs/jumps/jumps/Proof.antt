@@ -33,6 +33,6 @@ returns-6 c = by-name _ _ (c .before .enum-told6 .given .1) (c .same-either .ens
 
 pub jumps-spec : {M : Type 1} → statement M
 jumps-spec =
-    tie.close (tie.spec (search needs) (search needs) (search needs) (search needs) (search needs) (search needs)
-    (search needs) (search needs) (search needs) (search needs) (search needs) (search needs) returns returns-2
+    tie.close (tie.spec (search needs) (λ c κs. search needs) (search needs) (λ c κs. search needs) (search needs) (λ c κs. search needs)
+    (search needs) (λ c κs. search needs) (search needs) (λ c κs. search needs) (search needs) (λ c κs. search needs) returns returns-2
     returns-3 returns-4 returns-5 returns-6)

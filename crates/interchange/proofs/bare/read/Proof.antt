@@ -1,27 +1,17 @@
--- `bare::read` meets its contract: the ends that were read are answered if they are canonical.
-use mathlib.Core.Path.{_∙_, subst, subst⁻¹}
+-- `bare::read` meets its contract: the part that is read is the whole.
+use mathlib.Core.Path.{_≡_}
+use native.Mathlib.Nat.{le-of-eq}
 use borrow.Author.Needs.{needs}
-use Rattle.patterns.specs.Format.{binary64}
-use Rattle.meaning.specs.Pairs.{Canonical}
-use Rattle.meaning.specs.Statement.{first₁, right₁}
-use Rattle.meaning.specs.Bytes.{bytesFive, bytesGood}
-use Rattle.flags.proofs.AnswerLaws.{said-yes, said-no}
+use lib.ListN.{length}
+use lib.Seq.{take-all}
 use Rattle.interchange.proofs.bare.read.Statement.{statement}
 use Rattle.interchange.proofs.bare.read.Tie as tie
 
-from-ends-requires : tie.Need-from-ends-requires
-from-ends-requires c κs = said-yes (c .before .is-canonical .ensures) (c .if1 .taken) .bare
-
 returns : tie.Need-returns
 returns c =
-    let read = c .before .before .before .read-ends .ensures in
-    right₁ (bytesGood (subst (Canonical binary64) read (said-yes (c .before .before .is-canonical .ensures) (c .before .if1 .taken))))
-    (c .from-ends .ensures ∙ read)
-
-returns-2 : tie.Need-returns-2
-returns-2 c =
-    let read = c .before .before .read-ends .ensures in
-    first₁ (bytesFive (λ k. said-no (c .before .is-canonical .ensures) (c .if1 .left) (subst⁻¹ (Canonical binary64) read k)))
+    let bytes = c .before .before .args .t1 in
+    let long : length bytes ≡ 16 = search needs in
+    rw (take-all 16 bytes (le-of-eq long)) at (c .read-bare .ensures)
 
 pub read-spec : {M : Type 1} → statement M
-read-spec = tie.close (tie.spec (search needs) (search needs) (search needs) from-ends-requires returns returns-2)
+read-spec = tie.close (tie.spec (search needs) (search needs) returns)

@@ -1,23 +1,17 @@
--- `decorated::read` meets its contract: the byte is judged before the ends and the decoration.
+-- `decorated::read` meets its contract: the part that is read is the whole.
+use mathlib.Core.Path.{_≡_}
+use native.Mathlib.Nat.{le-of-eq}
 use borrow.Author.Needs.{needs}
-use Rattle.meaning.specs.Statement.{first₁}
-use Rattle.meaning.specs.Bytes.{bytesFour}
-use Rattle.interchange.proofs.ReadLaws.{known, unknown, read-known}
+use lib.ListN.{length}
+use lib.Seq.{take-all}
 use Rattle.interchange.proofs.decorated.read.Statement.{statement}
 use Rattle.interchange.proofs.decorated.read.Tie as tie
 
 returns : tie.Need-returns
 returns c =
-    read-known
-    (record {
-      is = known (c .before .before .before .before .before .before .decoration-of .ensures) (c .before .before .before .before .d .given .1);
-    })
-    (c .before .read-ends .ensures) (c .answer-read .ensures)
-
-returns-2 : tie.Need-returns-2
-returns-2 c = first₁ (bytesFour (λ d s. unknown (c .before .before .decoration-of .ensures) (c .enum-told .given .1) d (s .is)))
+    let bytes = c .before .before .args .t1 in
+    let long : length bytes ≡ 17 = search needs in
+    rw (take-all 17 bytes (le-of-eq long)) at (c .read-decorated .ensures)
 
 pub read-spec : {M : Type 1} → statement M
-read-spec =
-    tie.close (tie.spec (search needs) (search needs) (search needs) (search needs) (search needs) (search needs)
-    (search needs) returns returns-2)
+read-spec = tie.close (tie.spec (search needs) (search needs) returns)

@@ -16,4 +16,4 @@ returns c =
     }
 
 pub decorate-spec : {M : Type 1} → statement M
-decorate-spec = tie.close (tie.spec (search needs) (search needs) returns)
+decorate-spec = tie.close (tie.spec (search needs) (λ c κs. search needs) returns)

@@ -30,7 +30,7 @@ returns-8 c = combined-named (c .before .enum-told8 .given .1) _ _ (c .min-of .e
 
 pub combine-ends-spec : {M : Type 1} → statement M
 combine-ends-spec =
-    tie.close (tie.spec (search needs) (search needs) (search needs) (search needs) (search needs) (search needs)
-    (search needs) (search needs) (search needs) (search needs) (search needs) (search needs) (search needs)
-    (search needs) (search needs) (search needs) returns returns-2 returns-3 returns-4 returns-5 returns-6 returns-7
+    tie.close (tie.spec (search needs) (λ c κs. search needs) (search needs) (λ c κs. search needs) (search needs) (λ c κs. search needs)
+    (search needs) (λ c κs. search needs) (search needs) (λ c κs. search needs) (search needs) (λ c κs. search needs) (search needs)
+    (λ c κs. search needs) (search needs) (λ c κs. search needs) returns returns-2 returns-3 returns-4 returns-5 returns-6 returns-7
     returns-8)

@@ -13,4 +13,4 @@ returns : tie.Need-returns
 returns c = subst⁻¹ (HullOf binary64 _) (c .from-ends .ensures) (c .before .image-ends .ensures)
 
 pub image-spec : {M : Type 1} → statement M
-image-spec = tie.close (tie.spec (search needs) from-ends-requires returns)
+image-spec = tie.close (tie.spec (λ c κs. search needs) from-ends-requires returns)

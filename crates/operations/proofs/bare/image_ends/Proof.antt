@@ -15,5 +15,5 @@ returns-3 c = image-named (c .before .before .f .given .1) _ (c .image-of .ensur
 
 pub image-ends-spec : {M : Type 1} → statement M
 image-ends-spec =
-    tie.close (tie.spec (search needs) (search needs) (search needs) (search needs) (search needs) (search needs)
+    tie.close (tie.spec (search needs) (λ c κs. search needs) (search needs) (λ c κs. search needs) (search needs) (λ c κs. search needs)
     returns returns-2 returns-3)

@@ -31,6 +31,6 @@ returns-8 c = allows-two-named (c .enum-told8 .given .1) _ _ (λ X. refl)
 
 pub allowed-two-spec : {M : Type 1} → statement M
 allowed-two-spec =
-    tie.close (tie.spec (search needs) (search needs) (search needs) (search needs) (search needs) (search needs)
+    tie.close (tie.spec (search needs) (search needs) (search needs) (search needs) (λ c κs. search needs) (search needs)
     (search needs) (search needs) (search needs) returns returns-2 returns-3 returns-4 returns-5 returns-6 returns-7
     returns-8)

@@ -11,4 +11,4 @@ returns c =
     packs-down (fitted .fine) (fitted .short) (c .capped .ensures) F fracs codess n d some (fitted .brackets n d some b)
 
 pub pack-down-spec : {M : Type 1} → statement M
-pack-down-spec = tie.close (tie.spec (search needs) (search needs) returns)
+pack-down-spec = tie.close (tie.spec (λ c κs. search needs) (search needs) returns)

@@ -23,4 +23,4 @@ returns-2 c =
     packs-inexact (fitted .fine) (fitted .short) (c .before .before .if1 .left) (c .capped2 .ensures) F fracs codess n d some (fitted .brackets n d some b)
 
 pub pack-up-spec : {M : Type 1} → statement M
-pack-up-spec = tie.close (tie.spec (search needs) (search needs) returns add-capped (search needs) returns-2)
+pack-up-spec = tie.close (tie.spec (λ c κs. search needs) (search needs) returns add-capped (search needs) returns-2)

@@ -29,4 +29,4 @@ returns c =
     )
 
 pub quotient-spec : {M : Type 1} → statement M
-quotient-spec = tie.close (tie.spec (search needs) (search needs) (search needs) (search needs) returns)
+quotient-spec = tie.close (tie.spec (search needs) (search needs) (search needs) (λ c κs. search needs) returns)

@@ -17,4 +17,4 @@ cast-result-2 : tie.Need-cast-result-2
 cast-result-2 c = positive-casts (c .before .args .exponent) (c .before .pre) (c .if1 .left)
 
 pub size-spec : {M : Type 1} → statement M
-size-spec = tie.close (tie.spec sub-result cast-result returns cast-result-2 (search needs))
+size-spec = tie.close (tie.spec sub-result cast-result returns cast-result-2 (λ c. search needs))

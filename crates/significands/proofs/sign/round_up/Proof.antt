@@ -19,4 +19,4 @@ returns-3 : tie.Need-returns-3
 returns-3 c n d some b = rounded-positive binary64 (c .before .if1 .left) some (c .away-from-zero .ensures binary64 refl refl n d some b)
 
 pub round-up-spec : {M : Type 1} → statement M
-round-up-spec = tie.close (tie.spec (search needs) returns returns-2 (search needs) returns-3)
+round-up-spec = tie.close (tie.spec (λ c κs. search needs) returns returns-2 (λ c κs. search needs) returns-3)

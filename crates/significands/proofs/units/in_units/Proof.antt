@@ -42,4 +42,4 @@ returns-2 c =
     )
 
 pub in-units-spec : {M : Type 1} → statement M
-in-units-spec = tie.close (tie.spec (search needs) (search needs) returns (search needs) returns-2)
+in-units-spec = tie.close (tie.spec (λ c κs. search needs) (search needs) returns (λ c κs. search needs) returns-2)

@@ -18,4 +18,4 @@ returns-4 : tie.Need-returns-4
 returns-4 c = isWhole (large-whole binary64 (c .before .before .before .pre) (c .if3 .left))
 
 pub split-spec : {M : Type 1} → statement M
-split-spec = tie.close (tie.spec returns (search needs) returns-2 (search needs) (search needs) returns-4)
+split-spec = tie.close (tie.spec returns (search needs) returns-2 (search needs) (λ c. search needs) returns-4)

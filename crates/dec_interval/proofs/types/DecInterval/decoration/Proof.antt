@@ -3,15 +3,15 @@ use mathlib.Core.Path.{refl}
 use borrow.Author.Needs.{needs}
 use Rattle.patterns.specs.Format.{binary64}
 use Rattle.meaning.specs.Statement.{JudgedDecorated, right₁}
-use Rattle.interval.proofs.StatementLaws.{judged-sound, answered-wrong}
+use Rattle.interval.proofs.StatementLaws.{sound₁, refused₁}
 use Rattle.dec_interval.proofs.types.DecInterval.decoration.Statement.{statement}
 use Rattle.dec_interval.proofs.types.DecInterval.decoration.Tie as tie
 
 returns : tie.Need-returns
-returns c = right₁ (judged-sound (JudgedDecorated binary64) (c .before .before .judge-dec .ensures) (c .enum-told .given .1)) refl
+returns c = right₁ (sound₁ (c .before .before .judge-dec .ensures) (c .enum-told .given .1)) refl
 
 returns-2 : tie.Need-returns-2
-returns-2 c = answered-wrong (JudgedDecorated binary64) (c .before .before .before .judge-dec .ensures) (c .before .n .given .1)
+returns-2 c = refused₁ (c .before .before .before .judge-dec .ensures) (c .before .refusal .given .1)
 
 pub decoration-spec : {M : Type 1} → statement M
 decoration-spec = tie.close (tie.spec (search needs) (search needs) (search needs) returns returns-2)

@@ -13,7 +13,7 @@ unfolding infinity quietNaN
 returns-2 c = nai-end binary64 (c .before .before .interval .ensures) (c .enum-told .given .1)
 
 returns-3 : tie.Need-returns-3
-returns-3 c = part-refused binary64 (c .before .before .before .interval .ensures) (c .before .n .given .1)
+returns-3 c = part-refused binary64 (c .before .before .before .interval .ensures) (c .before .refusal .given .1)
 
 pub inf-spec : {M : Type 1} → statement M
 inf-spec =

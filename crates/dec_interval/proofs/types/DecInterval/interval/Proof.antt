@@ -7,20 +7,20 @@ use Rattle.meaning.specs.Bytes.{Tidied}
 use Rattle.dec_interval.specs.Values.{isPart, isMissing}
 use Rattle.flags.proofs.AnswerLaws.{said-yes, said-no}
 use Rattle.end_pairs.proofs.KindLaws.{only-bare}
-use Rattle.interval.proofs.StatementLaws.{judged-sound, answered-wrong}
+use Rattle.interval.proofs.StatementLaws.{sound₁, refused₁}
 use Rattle.decorations.proofs.AgreeLaws.{sound-ends}
 use Rattle.dec_interval.proofs.types.DecInterval.interval.Statement.{statement}
 use Rattle.dec_interval.proofs.types.DecInterval.interval.Tie as tie
 
 returns : tie.Need-returns
 returns c =
-    right₁ (judged-sound (JudgedDecorated binary64) (c .before .before .before .before .before .judge-dec .ensures) (c .before .before .before .enum-told .given .1))
+    right₁ (sound₁ (c .before .before .before .before .before .judge-dec .ensures) (c .before .before .before .enum-told .given .1))
     (isMissing (said-yes (c .before .are-nans .ensures) (c .if1 .taken)))
 
 canonical-requires : tie.Need-canonical-requires
 canonical-requires c κs =
     only-bare binary64
-    (sound-ends (judged-sound (JudgedDecorated binary64) (c .before .before .before .before .before .judge-dec .ensures) (c .before .before .before .enum-told .given .1)))
+    (sound-ends (sound₁ (c .before .before .before .before .before .judge-dec .ensures) (c .before .before .before .enum-told .given .1)))
     (said-no (c .before .are-nans .ensures) (c .if1 .left))
 
 from-ends-requires : tie.Need-from-ends-requires
@@ -29,12 +29,12 @@ from-ends-requires c κs = c .canonical .ensures .canonical .bare
 returns-2 : tie.Need-returns-2
 returns-2 c =
     right₁
-    (judged-sound (JudgedDecorated binary64) (c .before .before .before .before .before .before .before .judge-dec .ensures) (c .before .before .before .before .before .enum-told .given .1))
+    (sound₁ (c .before .before .before .before .before .before .before .judge-dec .ensures) (c .before .before .before .before .before .enum-told .given .1))
     (isPart (said-no (c .before .before .before .are-nans .ensures) (c .before .before .if1 .left))
     (subst⁻¹ (Tidied binary64 _) (c .from-ends .ensures) (c .before .canonical .ensures)))
 
 returns-3 : tie.Need-returns-3
-returns-3 c = answered-wrong (JudgedDecorated binary64) (c .before .before .before .judge-dec .ensures) (c .before .n .given .1)
+returns-3 c = refused₁ (c .before .before .before .judge-dec .ensures) (c .before .refusal .given .1)
 
 pub interval-spec : {M : Type 1} → statement M
 interval-spec =

@@ -14,7 +14,7 @@ returns-2 : tie.Need-returns-2
 returns-2 c = nai-asked binary64 (c .before .before .interval .ensures) (λ (Z : Set). Z ≡ empty) (c .enum-told .given .1)
 
 returns-3 : tie.Need-returns-3
-returns-3 c = part-refused binary64 (c .before .before .before .interval .ensures) (c .before .n .given .1)
+returns-3 c = part-refused binary64 (c .before .before .before .interval .ensures) (c .before .refusal .given .1)
 
 pub is-empty-spec : {M : Type 1} → statement M
 is-empty-spec =

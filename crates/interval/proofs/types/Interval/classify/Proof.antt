@@ -2,20 +2,20 @@
 use borrow.Author.Needs.{needs}
 use Rattle.patterns.specs.Format.{binary64}
 use Rattle.meaning.specs.Statement.{JudgedBare, right₁}
-use Rattle.interval.proofs.StatementLaws.{judged-sound, answered-wrong, sound-bare}
+use Rattle.interval.proofs.StatementLaws.{sound₁, refused₁, sound-bare}
 use Rattle.interval.proofs.types.Interval.classify.Statement.{statement}
 use Rattle.interval.proofs.types.Interval.classify.Tie as tie
 
 classify-requires : tie.Need-classify-requires
-classify-requires c κs = sound-bare (judged-sound (JudgedBare binary64) (c .before .before .judge .ensures) (c .enum-told .given .1))
+classify-requires c κs = sound-bare (sound₁ (c .before .before .judge .ensures) (c .enum-told .given .1))
 
 returns : tie.Need-returns
 returns c =
-    right₁ (judged-sound (JudgedBare binary64) (c .before .before .before .judge .ensures) (c .before .enum-told .given .1))
+    right₁ (sound₁ (c .before .before .before .judge .ensures) (c .before .enum-told .given .1))
     (c .classify .ensures)
 
 returns-2 : tie.Need-returns-2
-returns-2 c = answered-wrong (JudgedBare binary64) (c .before .before .before .judge .ensures) (c .before .n .given .1)
+returns-2 c = refused₁ (c .before .before .before .judge .ensures) (c .before .refusal .given .1)
 
 pub classify-spec : {M : Type 1} → statement M
 classify-spec = tie.close (tie.spec (search needs) (search needs) classify-requires (search needs) returns returns-2)

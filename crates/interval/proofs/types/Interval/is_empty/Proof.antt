@@ -3,17 +3,17 @@ use borrow.Author.Needs.{needs}
 use Rattle.patterns.specs.Format.{binary64}
 use Rattle.meaning.specs.Statement.{JudgedBare, right₁}
 use Rattle.end_pairs.proofs.Shapes.{answers-nothing}
-use Rattle.interval.proofs.StatementLaws.{judged-sound, answered-wrong, sound-bare}
+use Rattle.interval.proofs.StatementLaws.{sound₁, refused₁, sound-bare}
 use Rattle.interval.proofs.types.Interval.is_empty.Statement.{statement}
 use Rattle.interval.proofs.types.Interval.is_empty.Tie as tie
 
 returns : tie.Need-returns
 returns c =
-    let sound = judged-sound (JudgedBare binary64) (c .before .before .before .judge .ensures) (c .before .enum-told .given .1) in
+    let sound = sound₁ (c .before .before .before .judge .ensures) (c .before .enum-told .given .1) in
     right₁ sound (answers-nothing binary64 _ (sound-bare sound) (c .is-empty-pair .ensures))
 
 returns-2 : tie.Need-returns-2
-returns-2 c = answered-wrong (JudgedBare binary64) (c .before .before .before .judge .ensures) (c .before .n .given .1)
+returns-2 c = refused₁ (c .before .before .before .judge .ensures) (c .before .refusal .given .1)
 
 pub is-empty-spec : {M : Type 1} → statement M
 is-empty-spec = tie.close (tie.spec (search needs) (search needs) (search needs) (search needs) returns returns-2)

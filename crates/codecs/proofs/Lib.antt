@@ -1,2 +1,0 @@
--- Laws of codecs.
-pub mod CodecLaws

@@ -1,0 +1,13 @@
+-- `lent::write_bare` meets its contract: the ends fill the whole output.
+use borrow.Author.Needs.{needs}
+use Rattle.interchange.proofs.LentLaws.{whole}
+use Rattle.interchange.proofs.lent.write_bare.Statement.{statement}
+use Rattle.interchange.proofs.lent.write_bare.Tie as tie
+
+returns : tie.Need-returns
+returns c =
+    let given = c .before .before .before .before .before in
+    whole 16 (given .args .output .now) (c .before .before .write-ends .ensures) (given .pre)
+
+pub write-bare-spec : {M : Type 1} → statement M
+write-bare-spec = tie.close (tie.spec (search needs) (search needs) returns)

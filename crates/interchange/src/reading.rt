@@ -1,0 +1,70 @@
+// Seventeen bytes once they are taken apart: a byte for the decoration, and two ends.
+ghost use Rattle.patterns.specs.Format.{binary64};
+ghost use Rattle.meaning.specs.Statement.{Answered₁};
+ghost use Rattle.meaning.specs.Bytes.{BytesEnds};
+ghost use Rattle.decorations.specs.Conversions.{decorationOf};
+ghost use Rattle.dec_interval.specs.Conversions.{decPairOf, decOutcome};
+ghost use Rattle.end_pairs.specs.Conversions.{pairOf};
+ghost use Rattle.interchange.specs.Reading.{SaidBy, JudgedRead, ReadAs};
+use crate::canonical::has_bytes_ends;
+use dec_interval::DecAnswer;
+use dec_interval::DecInterval;
+use decorations::COM_BYTE;
+use decorations::DAC_BYTE;
+use decorations::DEF_BYTE;
+use decorations::Decoration;
+use decorations::ILL_BYTE;
+use decorations::TRV_BYTE;
+use decorations::judge_dec;
+use end_pairs::EndPair;
+use end_pairs::are_nans;
+use interval::Interval;
+use interval::Verdict;
+use refusals::Refusal;
+
+// The decoration that a byte says.
+pub enum ByteDecoration {
+    Known(Decoration),
+    Unknown,
+}
+
+// The decoration of a byte, if it has one.
+pub fn decoration_of(b: u8) -> ByteDecoration
+    ensures { λ r. ⌜ SaidBy b r ⌝ }
+{
+    match b {
+        ILL_BYTE => ByteDecoration::Known(Decoration::Ill),
+        TRV_BYTE => ByteDecoration::Known(Decoration::Trv),
+        DEF_BYTE => ByteDecoration::Known(Decoration::Def),
+        DAC_BYTE => ByteDecoration::Known(Decoration::Dac),
+        COM_BYTE => ByteDecoration::Known(Decoration::Com),
+        _ => ByteDecoration::Unknown,
+    }
+}
+
+// NaI with the NaNs that are written; any other value as it is.
+fn read_as(ends: EndPair, d: Decoration) -> DecInterval
+    requires { ⌜ BytesEnds binary64 (pairOf ends) ⌝ }
+    ensures { λ r. ⌜ ReadAs binary64 (record { pair = pairOf ends; decoration = decorationOf d }) (decPairOf r) ⌝ }
+{
+    if are_nans(ends) {
+        return DecInterval::NAI;
+    }
+    DecInterval {
+        x: Interval::from_ends(ends),
+        d,
+    }
+}
+
+// The ends and the decoration that were read, judged and answered.
+pub fn answer_read(ends: EndPair, d: Decoration) -> DecAnswer
+    ensures { λ r. ⌜ Answered₁ (JudgedRead binary64) (ReadAs binary64) (record { pair = pairOf ends; decoration = decorationOf d }) (decOutcome r) ⌝ }
+{
+    if !has_bytes_ends(ends) {
+        return DecAnswer::Refused(Refusal::BAD_ENDS);
+    }
+    match judge_dec(ends, d) {
+        Verdict::Sound => DecAnswer::Given(read_as(ends, d)),
+        Verdict::Refused(refusal) => DecAnswer::Refused(refusal),
+    }
+}
