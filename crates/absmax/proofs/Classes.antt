@@ -8,7 +8,7 @@ use Rattle.meaning.specs.Sets.{Set, Member}
 use Rattle.meaning.specs.Classes.{atZero, aboveZero, belowZero, ClassOf, isE, isN0, isN1, isP0, isP1, isZ}
 use Rattle.meaning.proofs.FractionLaws.{le-trans, lt-le, eq-le, eq-ge}
 use Rattle.points.proofs.EndLaws.{under-number, over-number}
-use Rattle.classify.specs.Conversions.{classOf}
+use Rattle.classify.specs.ClassMeaning.{classOf}
 use Rattle.classify.specs.declared.IntervalClass.{IntervalClass}
 use Rattle.classify.proofs.IntervalClass.{the-type}
 

@@ -4,7 +4,7 @@ ghost use Rattle.meaning.specs.Pairs.{Proper, Bare, setOf};
 ghost use Rattle.meaning.specs.Points.{abs, max, min};
 ghost use Rattle.meaning.specs.Results.{Result₁, Result₂, point};
 ghost use Rattle.meaning.specs.Statement.{HullOf};
-ghost use Rattle.end_pairs.specs.Conversions.{pairOf};
+ghost use Rattle.end_pairs.specs.EndPairMeaning.{pairOf};
 use classify::IntervalClass;
 use classify::classify;
 use end_pairs::EndPair;

@@ -18,16 +18,16 @@ use Rattle.meaning.proofs.FractionLaws.{eq-refl, eq-sym}
 use Rattle.meaning.proofs.SetLaws.{member-mirror, mirror-member}
 use Rattle.meaning.proofs.PairLaws.{end-opposite, set-proper, set-valid, proper-ordered}
 use Rattle.meaning.proofs.PatternHull.{hull-of-ends, hull-of-none}
-use Rattle.exact_ends.specs.declared.Kind.{Kind}
-use Rattle.exact_ends.specs.declared.Corner.{Corner}
-use Rattle.exact_ends.specs.Ends.{sumEnd, productEnd, quotientEnd}
-use Rattle.exact_ends.specs.Corners.{endAt, Divides}
-use Rattle.exact_ends.specs.Tables.{kindOf, mirrorKind, productCorner, quotientCorner, productUpper, quotientUpper}
-use Rattle.exact_ends.specs.Answer.{Arithmetic, adding, subtracting, multiplying, dividing, Bounds, nothing, between, TrueBounds, noResults, someResults, isZero, spanBounds}
-use Rattle.exact_ends.proofs.KindLaws.{kind-of}
-use Rattle.exact_ends.proofs.ClassLaws.{class-right}
-use Rattle.exact_ends.proofs.Divisors.{table-divides}
-use Rattle.exact_ends.proofs.TrueBounds.{Results, sums-right, differences-right, products-right, quotients-right}
+use Rattle.theorem3.specs.declared.Kind.{Kind}
+use Rattle.theorem3.specs.declared.Corner.{Corner}
+use Rattle.theorem3.specs.Ends.{sumEnd, productEnd, quotientEnd}
+use Rattle.theorem3.specs.Corners.{endAt, Divides}
+use Rattle.theorem3.specs.Tables.{kindOf, mirrorKind, productCorner, quotientCorner, productUpper, quotientUpper}
+use Rattle.theorem3.specs.Answer.{Arithmetic, adding, subtracting, multiplying, dividing, Bounds, nothing, between, TrueBounds, noResults, someResults, isZero, spanBounds}
+use Rattle.theorem3.proofs.KindLaws.{kind-of}
+use Rattle.theorem3.proofs.ClassLaws.{class-right}
+use Rattle.theorem3.proofs.Divisors.{table-divides}
+use Rattle.theorem3.proofs.TrueBounds.{Results, sums-right, differences-right, products-right, quotients-right}
 use Rattle.end_pairs.proofs.TestLaws.{lower-pattern, upper-pattern}
 use Rattle.end_pairs.specs.Mirror.{outwardPair, mirrorPair}
 use Rattle.end_pairs.proofs.MirrorLaws.{mirror-set}

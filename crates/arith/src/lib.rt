@@ -4,7 +4,7 @@ ghost use Rattle.meaning.specs.Pairs.{Bare, setOf};
 ghost use Rattle.meaning.specs.Points.{neg, add, sub, mul, div};
 ghost use Rattle.meaning.specs.Results.{Result₁, Result₂, point};
 ghost use Rattle.meaning.specs.Statement.{HullOf};
-ghost use Rattle.end_pairs.specs.Conversions.{pairOf};
+ghost use Rattle.end_pairs.specs.EndPairMeaning.{pairOf};
 use arith_ends::product_at;
 use arith_ends::quotient_at;
 use arith_ends::sum_end;

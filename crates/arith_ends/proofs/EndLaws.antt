@@ -18,8 +18,8 @@ use Rattle.meaning.specs.Classes.{AtZero, atZero}
 use Rattle.meaning.specs.Pairs.{worth, endBy, endOf}
 use Rattle.meaning.specs.Supremum.{UpperEnd}
 use Rattle.meaning.proofs.PairLaws.{end-finite}
-use Rattle.exact_ends.specs.Ends.{quotientEnd}
-use Rattle.exact_ends.proofs.UpEnd.{quotient-end}
+use Rattle.theorem3.specs.Ends.{quotientEnd}
+use Rattle.theorem3.proofs.UpEnd.{quotient-end}
 use Rattle.points.proofs.Exactly.{exact-number, exact-infinity}
 
 module _ (F : Format) {b : ℕ} (pattern : b < 2 * signBit F) where

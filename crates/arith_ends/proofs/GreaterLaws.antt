@@ -11,8 +11,8 @@ use Rattle.meaning.specs.Pairs.{worth}
 use Rattle.meaning.specs.Supremum.{AtMost, UpperEnd}
 use Rattle.meaning.proofs.FractionLaws.{lt-not-le, le-or-le}
 use Rattle.meaning.proofs.PatternHull.{upper-pattern}
-use Rattle.exact_ends.specs.Ends.{greaterEnd}
-use Rattle.exact_ends.proofs.Bounds.{raise, greater-most, most-first, most-second}
+use Rattle.theorem3.specs.Ends.{greaterEnd}
+use Rattle.theorem3.proofs.Bounds.{raise, greater-most, most-first, most-second}
 use Rattle.end_pairs.specs.Keys.{keyOf}
 use Rattle.end_pairs.proofs.KeyLaws.{key-lt, finite-keys}
 

@@ -2,8 +2,8 @@
 ghost use Rattle.patterns.specs.Format.{binary64};
 ghost use Rattle.meaning.specs.Pairs.{Bare, setOf};
 ghost use Rattle.meaning.specs.Decorations.{Divided};
-ghost use Rattle.end_pairs.specs.Conversions.{pairOf};
-ghost use Rattle.decorations.specs.Conversions.{decorationOf};
+ghost use Rattle.end_pairs.specs.EndPairMeaning.{pairOf};
+ghost use Rattle.decorations.specs.DecorationMeaning.{decorationOf};
 use classify::classify;
 use decorations::Decoration;
 use end_pairs::EndPair;

@@ -2,13 +2,13 @@
 ghost use Rattle.patterns.specs.Format.{binary64};
 ghost use Rattle.meaning.specs.Pairs.{endOf};
 ghost use Rattle.meaning.specs.Supremum.{UpperEnd};
-ghost use Rattle.exact_ends.specs.Ends.{greaterEnd, productEnd};
-ghost use Rattle.exact_ends.specs.Corners.{endAt};
+ghost use Rattle.theorem3.specs.Ends.{greaterEnd, productEnd};
+ghost use Rattle.theorem3.specs.Corners.{endAt};
 use crate::ends::product_end;
 use end_pairs::EndPair;
 use end_pairs::INFINITY;
 use end_pairs::less_or_equal;
-use exact_ends::Corner;
+use theorem3::Corner;
 
 // The greater of a * c and b * d.
 fn greater_product(x: EndPair, y: EndPair) -> u64

@@ -2,12 +2,12 @@
 ghost use Rattle.patterns.specs.Format.{binary64};
 ghost use Rattle.meaning.specs.Pairs.{endOf};
 ghost use Rattle.meaning.specs.Supremum.{UpperEnd};
-ghost use Rattle.exact_ends.specs.Ends.{quotientEnd};
-ghost use Rattle.exact_ends.specs.Corners.{endAt, Divides};
+ghost use Rattle.theorem3.specs.Ends.{quotientEnd};
+ghost use Rattle.theorem3.specs.Corners.{endAt, Divides};
 use crate::ends::quotient_end;
 use end_pairs::EndPair;
 use end_pairs::INFINITY;
-use exact_ends::Corner;
+use theorem3::Corner;
 
 // A corner of [a, b] / [c, d], worked out. No quotient is the greater of two; an arm for it has to be there all the same.
 pub fn quotient_at(corner: Corner, x: EndPair, y: EndPair) -> u64

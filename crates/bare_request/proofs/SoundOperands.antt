@@ -7,7 +7,7 @@ use Rattle.meaning.specs.Pairs.{Pair, Bare}
 use Rattle.meaning.specs.Statement.{Outcome, given, Answered₁, right₁, Answered₂, right₂}
 use Rattle.meaning.specs.Bytes.{bigEndian, JudgedBytes, bytesGood, Written}
 use Rattle.request_laws.specs.Reads.{BothRead}
-use Rattle.bare_request.specs.Conversions.{ReadPair}
+use Rattle.bare_request.specs.OperandMeaning.{ReadPair}
 
 abbrev pub ReadOne : List ℕ → Outcome Pair → Type 0
 ReadOne first o = Answered₁ (JudgedBytes binary64 bigEndian) ReadPair first o

@@ -1,2 +1,2 @@
 -- What the contracts of bare requests cite.
-pub mod Conversions
+pub mod OperandMeaning

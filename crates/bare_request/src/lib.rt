@@ -9,7 +9,7 @@ ghost use Rattle.meaning.specs.Calls.{Called};
 
 mod operation;
 
-use calls::BARE_REQUEST;
+use lent_calls::BARE_REQUEST;
 use interchange::BARE;
 use operation::one_operand;
 use operation::overlap_state;

@@ -9,9 +9,9 @@ ghost use Rattle.meaning.specs.Requests.{BareOutcome, unary, binary, overlap, f
 ghost use Rattle.meaning.specs.Statement.{Answered₂};
 ghost use Rattle.operations.specs.Names.{unaryOf, binaryOf};
 ghost use Rattle.request_laws.specs.Reads.{OnOperands, BothRead};
-ghost use Rattle.bare_request.specs.Conversions.{bothOf, ReadPair};
-use calls::write_state;
-use end_bytes::ByteOrder;
+ghost use Rattle.bare_request.specs.OperandMeaning.{bothOf, ReadPair};
+use lent_calls::write_state;
+use ends_in_bytes::ByteOrder;
 use interchange::BARE;
 use interchange::read_bare;
 use interchange::write_bare;

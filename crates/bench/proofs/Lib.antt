@@ -1,2 +1,2 @@
 -- Laws of a run's turns.
-pub mod RunLaws
+pub mod OnwardLaws

@@ -7,8 +7,8 @@ ghost use lib.ListN.{length};
 ghost use Rattle.bench.specs.Runs.{LeftByTurn, Ready, Onward};
 use bench_turn::Run;
 use bench_turn::turn;
-use calls::DECORATED_REQUEST;
-use calls::REPLY;
+use lent_calls::DECORATED_REQUEST;
+use lent_calls::REPLY;
 use libc::STDIN_FILENO;
 use libc::STDOUT_FILENO;
 

@@ -1,5 +1,5 @@
 -- Laws of bytes that move, of replies, and of runs and their turns.
-pub mod PlaceLaws
+pub mod FrontLaws
 pub mod RepliesLaws
 pub mod RunLaws
 pub mod OneRun

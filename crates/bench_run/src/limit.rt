@@ -2,7 +2,7 @@
 ghost use mathlib.Core.Path.{_≡_};
 ghost use Prim.Native.Nat.{_≤_};
 ghost use Rattle.bench_run.specs.Limit.{most, completeIn};
-use calls::DECORATED_REQUEST;
+use lent_calls::DECORATED_REQUEST;
 
 // The requests that a run answers.
 pub const MOST: usize = 4096;

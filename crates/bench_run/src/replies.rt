@@ -1,7 +1,7 @@
 // The reply that ends a run.
 ghost use mathlib.Core.Path.{_≡_};
 ghost use Rattle.bench_run.specs.Run.{lastReply};
-use calls::REPLY;
+use lent_calls::REPLY;
 
 // Where the number stands in a reply.
 const NUMBER_AT: usize = 0;

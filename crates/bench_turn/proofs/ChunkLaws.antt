@@ -8,7 +8,7 @@ use lib.ListN.{length, take, drop, take-append-drop}
 use lib.Seq.{length-take-le, take-at, drop-at, drop-drop}
 use Rattle.request_laws.specs.Chunk.{requestSize, replySize, part, Replied, Chunk}
 use Rattle.request_laws.proofs.PartLaws.{part-front}
-use Rattle.bench_turn.proofs.PlaceLaws.{placed}
+use Rattle.bench_turn.proofs.PutLaws.{placed}
 
 -- Before the first request is answered nothing has changed.
 pub chunk-none : (input before : List ℕ) → Chunk 0 input before before

@@ -1,4 +1,4 @@
 -- Laws of bytes that are put at a place, of chunks of requests, and of a turn on two buffers.
-pub mod PlaceLaws
+pub mod PutLaws
 pub mod ChunkLaws
 pub mod TurnLaws

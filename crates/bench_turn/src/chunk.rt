@@ -1,8 +1,8 @@
 // Chunks of decorated requests, which lie one behind the other: nineteen bytes for each.
 ghost use Rattle.request_laws.specs.Chunk.{Chunk, Replied};
 ghost use Rattle.bench_turn.specs.Room.{Roomy};
-use calls::DECORATED_REQUEST;
-use calls::REPLY;
+use lent_calls::DECORATED_REQUEST;
+use lent_calls::REPLY;
 use decorated_request::request_decorated;
 use interchange::DECORATED;
 

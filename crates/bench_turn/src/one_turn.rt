@@ -7,8 +7,8 @@ use bench_run::closing;
 use bench_run::complete;
 use bench_run::keep_rest;
 use bench_run::last_reply;
-use calls::DECORATED_REQUEST;
-use calls::REPLY;
+use lent_calls::DECORATED_REQUEST;
+use lent_calls::REPLY;
 
 // How far a run has come: the bytes at the front of the input buffer that are not answered yet, the requests that are, the bytes
 // at the front of the output buffer that are to be written, and whether another turn follows.

@@ -2,8 +2,8 @@
 ghost use Rattle.patterns.specs.Format.{binary64};
 ghost use Rattle.meaning.specs.Results as results;
 ghost use Rattle.meaning.specs.Statement.{Bare₂, Decorated₂};
-ghost use Rattle.interval.specs.Conversions.{pairOf, outcome};
-ghost use Rattle.dec_interval.specs.Conversions.{decPairOf, decOutcome};
+ghost use Rattle.interval.specs.IntervalMeaning.{pairOf, outcome};
+ghost use Rattle.dec_interval.specs.DecIntervalMeaning.{decPairOf, decOutcome};
 use dec_interval::DecAnswer;
 use dec_interval::DecInterval;
 use interval::Answer;

@@ -17,9 +17,9 @@ use Rattle.points.specs.Ends.{numbers, greaterSecond, lesserFirst, lesserSecond
 use Rattle.points.proofs.Extremes.{max-bounds, min-bounds}
 use Rattle.points.proofs.Magnitudes.{abs-bounds}
 use Rattle.points.proofs.Unions.{hull-bounds, intersection-bounds}
-use Rattle.exact_ends.specs.Ends.{reciprocal, greater}
-use Rattle.exact_ends.specs.Answer.{Arithmetic, adding, subtracting, multiplying, dividing, binary, between, TrueBounds, someResults}
-use Rattle.exact_ends.proofs.TrueBounds.{neg-bounds-right}
+use Rattle.theorem3.specs.Ends.{reciprocal, greater}
+use Rattle.theorem3.specs.Answer.{Arithmetic, adding, subtracting, multiplying, dividing, binary, between, TrueBounds, someResults}
+use Rattle.theorem3.proofs.TrueBounds.{neg-bounds-right}
 use Rattle.cases.specs.Table.{pair, only, minusZero, oneHalf, one, oneAndHalf, two, three, four, minusOne, minusTwo, minusThree, minusSix, eight, entire, emptiness}
 use Rattle.cases.proofs.Tests.{split, properTest, proper-tested, le-tested, answer-tested}
 use Rattle.cases.proofs.RowTests.{arithmeticTest, arithmetic-hull, bare-tested, stepTest, step-hull-tested}

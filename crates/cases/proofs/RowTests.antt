@@ -23,8 +23,8 @@ use Rattle.points.specs.Ends.{ofNumber}
 use Rattle.points.proofs.Images.{rising-bounds, lower-made}
 use Rattle.points.proofs.Exactly.{exact-number}
 use Rattle.points.proofs.Answers.{answer}
-use Rattle.exact_ends.specs.Answer.{Arithmetic, binary, boundsOf}
-use Rattle.exact_ends.proofs.TrueBounds.{bounds-right}
+use Rattle.theorem3.specs.Answer.{Arithmetic, binary, boundsOf}
+use Rattle.theorem3.proofs.TrueBounds.{bounds-right}
 use Rattle.cases.proofs.Tests.{either, split, of-either, finiteTest, finite-tested, properTest, proper-tested, answerTest, answer-tested}
 use Rattle.cases.proofs.PointTests.{madeTest, made-tested}
 

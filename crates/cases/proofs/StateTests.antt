@@ -11,8 +11,8 @@ use Rattle.meaning.specs.Pairs.{Pair, worth, both, setOf, Proper}
 use Rattle.meaning.specs.Statement.{right₂, bareGood}
 use Rattle.meaning.specs.Overlap.{State, bothEmpty, firstEmpty, secondEmpty, before, meets, overlaps, starts, containedBy, finishes, equals, finishedBy, contains, startedBy, overlappedBy, metBy, after, stateNumber, Conditions, number, Less, lessNumbers, Same, sameNumbers, OverlapOf}
 use Rattle.meaning.proofs.PairLaws.{set-proper, end-finite}
-use Rattle.states.specs.Order.{Keys}
-use Rattle.states.proofs.KeyLaws.{by-keys, map-keys}
+use Rattle.uniqueness.specs.Order.{Keys}
+use Rattle.uniqueness.proofs.KeyLaws.{by-keys, map-keys}
 use Rattle.cases.specs.Rows.{RightState}
 use Rattle.cases.proofs.Tests.{split, ltTest, eqTest, lt-tested, eq-tested, properTest, proper-tested}
 use Rattle.cases.proofs.RowTests.{boundedTest, bounded-tested}

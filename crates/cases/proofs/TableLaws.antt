@@ -6,7 +6,7 @@ use Rattle.patterns.specs.Format.{binary64, infinity, signBit}
 use Rattle.patterns.specs.Value.{value, magnitude, plus, minus, opposite}
 use Rattle.meaning.specs.Fraction.{_⊕_, _⊗_}
 use Rattle.meaning.specs.Pairs.{both, minusInfinity, endOf, setOf}
-use Rattle.exact_ends.specs.Ends.{reciprocal, greater}
+use Rattle.theorem3.specs.Ends.{reciprocal, greater}
 use Rattle.cases.specs.Rows.{Row, bare, decorated, stepped, state, Right, All, none, more}
 use Rattle.cases.specs.Table.{table}
 use Rattle.cases.proofs.Tests.{split}

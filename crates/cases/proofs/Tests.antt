@@ -17,8 +17,8 @@ use Rattle.meaning.specs.Pairs.{Pair, worth, both, minusInfinity, Proper}
 use Rattle.meaning.specs.Statement.{HullOf}
 use Rattle.meaning.specs.Supremum.{UpperEnd}
 use Rattle.meaning.proofs.PatternHull.{hull-of-ends, hull-of-none}
-use Rattle.exact_ends.proofs.Rounding.{end-not-negative, end-negative, end-vanishing, end-infinite}
-use Rattle.exact_ends.specs.Answer.{Bounds, nothing, between, TrueBounds, noResults, someResults}
+use Rattle.theorem3.proofs.Rounding.{end-not-negative, end-negative, end-vanishing, end-infinite}
+use Rattle.theorem3.specs.Answer.{Bounds, nothing, between, TrueBounds, noResults, someResults}
 
 abbrev pub either : Bool → Bool → Bool
 either true b = true

@@ -15,9 +15,9 @@ use Rattle.meaning.specs.Decorations.{Decoration, Trv}
 use Rattle.meaning.specs.Statement.{Outcome, refused, given, sound, wrong, bareGood, right₁, right₂, first₁, first₂, second₂, JudgedDecorated, decoratedGood, DecPair, RightDecorated, rightNaI, rightInterval, HullOf, Bare₁, Bare₂, Decorated₁, Decorated₂}
 use Rattle.meaning.specs.Overlap.{State, finishedBy, meets, BareOverlap, intervalState, DecOverlap}
 use Rattle.meaning.proofs.Unique.{bare₁-once, bare₂-once, hull-once}
-use Rattle.states.proofs.PairLaws.{proper-not-nans}
-use Rattle.states.proofs.VerdictLaws.{judged-decorated-once}
-use Rattle.states.proofs.OverlapLaws.{bareOverlap-once, decOverlap-once}
+use Rattle.uniqueness.proofs.PairLaws.{proper-not-nans}
+use Rattle.uniqueness.proofs.VerdictLaws.{judged-decorated-once}
+use Rattle.uniqueness.proofs.OverlapLaws.{bareOverlap-once, decOverlap-once}
 use Rattle.cases.specs.Rows.{RightState}
 use Rattle.cases.specs.Table.{entire, emptiness, pair, only, one, two, three}
 use Rattle.cases.proofs.StateTests.{bounded-set, state-tested}

@@ -8,7 +8,7 @@ use Rattle.meaning.specs.Pairs.{Pair, setOf}
 use Rattle.meaning.specs.Results.{point}
 use Rattle.meaning.specs.Statement.{DecPair, given, Bare₁, Bare₂, Decorated₂}
 use Rattle.meaning.specs.Overlap.{State, stateNumber, OverlapOf, BareOverlap}
-use Rattle.exact_ends.specs.Answer.{Arithmetic, binary}
+use Rattle.theorem3.specs.Answer.{Arithmetic, binary}
 
 -- Operands and the answer.
 pub data Row : Type 0 where

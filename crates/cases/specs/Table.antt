@@ -6,7 +6,7 @@ use Rattle.meaning.specs.Pairs.{Pair}
 use Rattle.meaning.specs.Decorations.{Decoration, Com, Dac}
 use Rattle.meaning.specs.Statement.{DecPair}
 use Rattle.meaning.specs.Overlap.{meets, finishedBy}
-use Rattle.exact_ends.specs.Answer.{adding, multiplying, dividing}
+use Rattle.theorem3.specs.Answer.{adding, multiplying, dividing}
 use Rattle.cases.specs.Rows.{Row, bare, decorated, stepped, state}
 
 abbrev pub pair : ℕ → ℕ → Pair

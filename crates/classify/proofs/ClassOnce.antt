@@ -4,7 +4,7 @@ use native.Mathlib.Omega.{arith}
 use Rattle.meaning.specs.Fraction.{Fraction, _≺_, _≈_, whole}
 use Rattle.meaning.specs.Sets.{End, Set, empty, span}
 use Rattle.meaning.specs.Classes.{Class, classE, classM, classN0, classN1, classP0, classP1, classZ, BelowZero, belowZero, AtZero, atZero, AboveZero, aboveZero, LowerNegative, lowerNumber, UpperPositive, upperNumber, ClassOf, isE, isM, isN0, isN1, isP0, isP1, isZ}
-use Rattle.classify.specs.Conversions.{classOf}
+use Rattle.classify.specs.ClassMeaning.{classOf}
 use Rattle.classify.specs.declared.IntervalClass.{IntervalClass}
 
 -- Where an end lies.

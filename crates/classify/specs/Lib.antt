@@ -1,2 +1,2 @@
 -- What the contracts of classification cite.
-pub mod Conversions
+pub mod ClassMeaning

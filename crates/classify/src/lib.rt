@@ -2,8 +2,8 @@
 ghost use Rattle.patterns.specs.Format.{binary64};
 ghost use Rattle.meaning.specs.Classes.{ClassOf};
 ghost use Rattle.meaning.specs.Pairs.{Bare, setOf};
-ghost use Rattle.end_pairs.specs.Conversions.{pairOf};
-ghost use Rattle.classify.specs.Conversions.{classOf};
+ghost use Rattle.end_pairs.specs.EndPairMeaning.{pairOf};
+ghost use Rattle.classify.specs.ClassMeaning.{classOf};
 use end_pairs::EndPair;
 use end_pairs::SIGN;
 use end_pairs::is_empty_pair;

@@ -2,8 +2,8 @@
 ghost use Rattle.patterns.specs.Format.{binary64};
 ghost use Rattle.meaning.specs.Bytes.{bigEndian, littleEndian};
 ghost use Rattle.meaning.specs.Requests.{BareCodec};
-ghost use Rattle.end_bytes.specs.Conversions.{orderOf};
-use end_bytes::ByteOrder;
+ghost use Rattle.ends_in_bytes.specs.ByteOrderMeaning.{orderOf};
+use ends_in_bytes::ByteOrder;
 use interchange::BARE;
 use interchange::read_bare;
 use interchange::write_bare;

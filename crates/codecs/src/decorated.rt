@@ -2,9 +2,9 @@
 ghost use Rattle.patterns.specs.Format.{binary64};
 ghost use Rattle.meaning.specs.Bytes.{bigEndian, littleEndian};
 ghost use Rattle.meaning.specs.Requests.{DecoratedCodec};
-ghost use Rattle.end_bytes.specs.Conversions.{orderOf};
+ghost use Rattle.ends_in_bytes.specs.ByteOrderMeaning.{orderOf};
 use dec_interval::DecAnswer;
-use end_bytes::ByteOrder;
+use ends_in_bytes::ByteOrder;
 use interchange::DECORATED;
 use interchange::read_decorated;
 use interchange::write_decorated;

@@ -4,7 +4,7 @@ use Rattle.meaning.specs.Decorations as meant
 use Rattle.meaning.specs.Statement.{DecPair, Outcome, refused, given}
 use Rattle.interval.proofs.Codes.{injective, intervalOf}
 use Rattle.decorations.proofs.Codes.{codeOf, code-back}
-use Rattle.dec_interval.specs.Conversions.{decPairOf, decOutcome, decorationOutcome, partOutcome}
+use Rattle.dec_interval.specs.DecIntervalMeaning.{decPairOf, decOutcome, decorationOutcome, partOutcome}
 use Rattle.dec_interval.specs.Values.{Part, part, noPart}
 use Rattle.dec_interval.specs.declared.types.DecInterval.{DecInterval}
 use Rattle.dec_interval.specs.declared.answers.DecAnswer.{DecAnswer}

@@ -5,7 +5,7 @@ use Rattle.patterns.specs.Format.{Format}
 use Rattle.meaning.specs.Pairs.{Pair}
 use Rattle.meaning.specs.Decorations.{Decoration}
 use Rattle.meaning.specs.Statement.{DecPair}
-use Rattle.states.proofs.ReadingLaws.{tidied-once}
+use Rattle.uniqueness.proofs.ReadingLaws.{tidied-once}
 use Rattle.dec_interval.specs.Values.{TidiedDec, tidiedNaI, tidiedInterval, SetDec, setNaI, setInterval, Part, PartOf, isPart, isMissing, DecEndOf, nanEnd, partEnd}
 
 dec-pair : {z w : DecPair} → z .pair ≡ w .pair → z .decoration ≡ w .decoration → z ≡ w

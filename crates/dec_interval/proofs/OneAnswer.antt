@@ -6,15 +6,15 @@ use Rattle.meaning.specs.Pairs.{NaNs}
 use Rattle.meaning.specs.Decorations.{Decoration, Com, Common, Point}
 use Rattle.meaning.specs.Statement.{JudgedBare, JudgedDecorated}
 use Rattle.meaning.proofs.Unique.{one-answer₁, judged-bare-once}
-use Rattle.flags.specs.Answers.{Answers}
-use Rattle.flags.proofs.AnswerLaws.{answers-once}
-use Rattle.states.proofs.VerdictLaws.{judged-decorated-once}
-use Rattle.interval.specs.Conversions.{boolOutcome, endOutcome}
+use Rattle.truth.specs.Answers.{Answers}
+use Rattle.truth.proofs.AnswerLaws.{answers-once}
+use Rattle.uniqueness.proofs.VerdictLaws.{judged-decorated-once}
+use Rattle.interval.specs.IntervalMeaning.{boolOutcome, endOutcome}
 use Rattle.interval.specs.Values.{LowerOf, UpperOf}
 use Rattle.interval.proofs.Codes.{boolAnswer-known, endAnswer-known}
 use Rattle.interval.proofs.Once.{lower-once, upper-once}
 use Rattle.interval.proofs.OneAnswer.{Once}
-use Rattle.dec_interval.specs.Conversions.{decOutcome, decorationOutcome, partOutcome}
+use Rattle.dec_interval.specs.DecIntervalMeaning.{decOutcome, decorationOutcome, partOutcome}
 use Rattle.dec_interval.specs.Values.{TidiedDec, SetDec, PartOf, DecEndOf, OfPart}
 use Rattle.dec_interval.proofs.Codes.{decAnswer-known, decorationAnswer-known, partAnswer-known}
 use Rattle.dec_interval.proofs.Once.{tidiedDec-once, setDec-once, part-once, decEnd-once}

@@ -1,3 +1,3 @@
 -- What the contracts of decorated intervals cite.
-pub mod Conversions
+pub mod DecIntervalMeaning
 pub mod Values

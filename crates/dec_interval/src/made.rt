@@ -2,10 +2,10 @@
 ghost use Rattle.patterns.specs.Format.{binary64};
 ghost use Rattle.meaning.specs.Pairs.{Bare};
 ghost use Rattle.meaning.specs.Statement.{Ends};
-ghost use Rattle.end_pairs.specs.Conversions.{pairOf};
-ghost use Rattle.interval.specs.Conversions as interval;
-ghost use Rattle.decorations.specs.Conversions.{decorationOf};
-ghost use Rattle.dec_interval.specs.Conversions.{decPairOf};
+ghost use Rattle.end_pairs.specs.EndPairMeaning.{pairOf};
+ghost use Rattle.interval.specs.IntervalMeaning as interval;
+ghost use Rattle.decorations.specs.DecorationMeaning.{decorationOf};
+ghost use Rattle.dec_interval.specs.DecIntervalMeaning.{decPairOf};
 ghost use Rattle.dec_interval.specs.Values.{TidiedDec, SetDec};
 use crate::types::DecInterval;
 use decorations::Decoration;

@@ -1,2 +1,2 @@
 -- What the contracts of decorated requests cite.
-pub mod Conversions
+pub mod DecOperandMeaning

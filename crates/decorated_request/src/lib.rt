@@ -9,7 +9,7 @@ ghost use Rattle.meaning.specs.Calls.{Called};
 
 mod operation;
 
-use calls::DECORATED_REQUEST;
+use lent_calls::DECORATED_REQUEST;
 use interchange::DECORATED;
 use operation::one_operand;
 use operation::overlap_state;

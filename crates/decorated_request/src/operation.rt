@@ -9,11 +9,11 @@ ghost use Rattle.meaning.specs.Requests.{DecoratedOutcome, unary, binary, overl
 ghost use Rattle.meaning.specs.Statement.{Answered₂};
 ghost use Rattle.operations.specs.Names.{unaryOf, binaryOf};
 ghost use Rattle.request_laws.specs.Reads.{OnOperands, BothRead};
-ghost use Rattle.decorated_request.specs.Conversions.{bothOf};
-use calls::write_state;
+ghost use Rattle.decorated_request.specs.DecOperandMeaning.{bothOf};
+use lent_calls::write_state;
 use dec_interval::DecAnswer;
 use dec_interval::DecInterval;
-use end_bytes::ByteOrder;
+use ends_in_bytes::ByteOrder;
 use interchange::DECORATED;
 use interchange::read_decorated;
 use interchange::write_decorated;

@@ -11,8 +11,8 @@ use Rattle.meaning.specs.Pairs.{Pair, Proper, EmptyPair, Bare, NaNs}
 use Rattle.meaning.specs.Decorations.{Decoration, Ill, Trv, Def, Dac, Com, decorationByte}
 use Rattle.meaning.specs.Statement.{sound, DecPair, Ends, Agrees, JudgedDecorated, decoratedGood}
 use Rattle.meaning.proofs.PairLaws.{infinity-not-finite}
-use Rattle.flags.specs.Answers.{Answers}
-use Rattle.flags.proofs.AnswerLaws.{answers-iff}
+use Rattle.truth.specs.Answers.{Answers}
+use Rattle.truth.proofs.AnswerLaws.{answers-iff}
 use Rattle.end_pairs.specs.Zeros.{canonicalPair}
 use Rattle.end_pairs.proofs.KindLaws.{proper-not-empty, bare-not-nans}
 use Rattle.end_pairs.proofs.ZeroLaws.{canonical-proper, canonical-empty, finite-lower, finite-upper}

@@ -1,7 +1,7 @@
 -- A decoration of the code is known by what it is.
 use mathlib.Core.Path.{_≡_, refl}
 use Rattle.meaning.specs.Decorations as meant
-use Rattle.decorations.specs.Conversions.{decorationOf}
+use Rattle.decorations.specs.DecorationMeaning.{decorationOf}
 use Rattle.decorations.specs.declared.types.Decoration.{Decoration}
 
 abbrev pub codeOf : meant.Decoration → Decoration

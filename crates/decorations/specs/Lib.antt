@@ -1,2 +1,2 @@
 -- What the contracts of decorations cite.
-pub mod Conversions
+pub mod DecorationMeaning

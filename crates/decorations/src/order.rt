@@ -1,7 +1,7 @@
 // The order of decorations, which is that of their bytes.
 ghost use mathlib.Core.Path.{_≡_};
 ghost use Rattle.meaning.specs.Decorations as meant;
-ghost use Rattle.decorations.specs.Conversions.{decorationOf};
+ghost use Rattle.decorations.specs.DecorationMeaning.{decorationOf};
 use crate::types::Decoration;
 
 // The bytes of the decorations, which rise as they do.

@@ -1,10 +1,10 @@
 // Which ends and decorations are those of a decorated interval.
 ghost use Rattle.patterns.specs.Format.{binary64};
 ghost use Rattle.meaning.specs.Statement.{Ends, Agrees, Found₁, JudgedDecorated};
-ghost use Rattle.flags.specs.Answers.{Answers};
-ghost use Rattle.end_pairs.specs.Conversions.{pairOf};
-ghost use Rattle.interval.specs.Conversions.{verdictOf};
-ghost use Rattle.decorations.specs.Conversions.{decorationOf};
+ghost use Rattle.truth.specs.Answers.{Answers};
+ghost use Rattle.end_pairs.specs.EndPairMeaning.{pairOf};
+ghost use Rattle.interval.specs.IntervalMeaning.{verdictOf};
+ghost use Rattle.decorations.specs.DecorationMeaning.{decorationOf};
 use crate::types::Decoration;
 use end_pairs::EndPair;
 use end_pairs::are_nans;

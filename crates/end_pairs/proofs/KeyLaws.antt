@@ -15,9 +15,9 @@ use Rattle.patterns.proofs.SignLaws.{infinity-below, signed, finite-cases, plus
 use Rattle.meaning.specs.Fraction.{_≼_, _≺_, _≈_, whole}
 use Rattle.meaning.specs.Pairs.{worth, minusInfinity}
 use Rattle.meaning.proofs.FractionLaws.{antisymm, eq-ge, eq-le, eq-trans, le-lt-trans, lt-le-trans, lt-not-le}
-use Rattle.flags.specs.Answers.{Answers}
+use Rattle.truth.specs.Answers.{Answers}
 use Rattle.end_pairs.specs.Keys.{keyOf}
-use Rattle.flags.proofs.AnswerLaws.{answers-le}
+use Rattle.truth.proofs.AnswerLaws.{answers-le}
 
 pub key-below : (F : Format) {b : ℕ} → b < signBit F → keyOf F b ≡ signBit F + b
 unfolding keyOf

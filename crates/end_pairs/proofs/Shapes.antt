@@ -12,8 +12,8 @@ use Rattle.meaning.specs.Pairs.{Pair, worth, minusInfinity, Proper, EmptyPair, 
 use Rattle.meaning.specs.Decorations.{Common, common, Point, one}
 use Rattle.meaning.proofs.FractionLaws.{antisymm, eq-ge}
 use Rattle.meaning.proofs.PairLaws.{end-finite, end-infinity, end-minusInfinity, infinities-differ, infinity-not-finite, minusInfinity-not-finite, lower-not-infinity, set-proper, set-empty}
-use Rattle.flags.specs.Answers.{Answers}
-use Rattle.flags.proofs.AnswerLaws.{answers-iff}
+use Rattle.truth.specs.Answers.{Answers}
+use Rattle.truth.proofs.AnswerLaws.{answers-iff}
 
 pub data LowerShape (F : Format) (n : ℕ) : End → Type 0 where
   lowerFinite : Finite F n → LowerShape F n (at (worth F n))

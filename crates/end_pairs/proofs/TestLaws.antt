@@ -12,9 +12,9 @@ use Rattle.patterns.proofs.SignLaws.{infinity-below}
 use Rattle.meaning.specs.Fraction.{_≼_}
 use Rattle.meaning.specs.Pairs.{Pair, worth, minusInfinity, NaN, Proper}
 use Rattle.meaning.proofs.FractionLaws.{lt-not-le}
-use Rattle.flags.specs.Answers.{Answers}
+use Rattle.truth.specs.Answers.{Answers}
 use Rattle.end_pairs.specs.Keys.{keyOf}
-use Rattle.flags.proofs.AnswerLaws.{answers-lt, answers-iff}
+use Rattle.truth.proofs.AnswerLaws.{answers-lt, answers-iff}
 use Rattle.end_pairs.proofs.KeyLaws.{key-le, key-lt, finite-keys, key-infinity, key-minusInfinity}
 
 module _ (F : Format) {b : ℕ} (pattern : b < 2 * signBit F) where

@@ -1,5 +1,5 @@
 -- What the contracts of two ends cite.
-pub mod Conversions
+pub mod EndPairMeaning
 pub mod Keys
 pub mod Mirror
 pub mod Order

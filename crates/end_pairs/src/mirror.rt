@@ -2,7 +2,7 @@
 ghost use mathlib.Core.Path.{_≡_};
 ghost use Rattle.patterns.specs.Format.{binary64};
 ghost use Rattle.patterns.specs.Value.{opposite};
-ghost use Rattle.end_pairs.specs.Conversions.{pairOf};
+ghost use Rattle.end_pairs.specs.EndPairMeaning.{pairOf};
 ghost use Rattle.end_pairs.specs.Mirror.{outwardPair, mirrorPair};
 use crate::types::EndPair;
 use crate::types::SIGN;

@@ -3,7 +3,7 @@ ghost use mathlib.Core.Path.{_≡_};
 ghost use Rattle.patterns.specs.Format.{binary64};
 ghost use Rattle.meaning.specs.Fraction.{_≼_};
 ghost use Rattle.meaning.specs.Pairs.{worth};
-ghost use Rattle.flags.specs.Answers.{Answers};
+ghost use Rattle.truth.specs.Answers.{Answers};
 ghost use Rattle.end_pairs.specs.Keys.{keyOf};
 ghost use Rattle.end_pairs.specs.Order.{LesserOf, GreaterOf};
 use crate::types::SIGN;

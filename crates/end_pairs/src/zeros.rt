@@ -3,7 +3,7 @@ ghost use mathlib.Core.Path.{_≡_};
 ghost use Rattle.patterns.specs.Format.{binary64};
 ghost use Rattle.meaning.specs.Pairs.{Bare};
 ghost use Rattle.meaning.specs.Bytes.{Tidied};
-ghost use Rattle.end_pairs.specs.Conversions.{pairOf};
+ghost use Rattle.end_pairs.specs.EndPairMeaning.{pairOf};
 ghost use Rattle.end_pairs.specs.Zeros.{canonicalLower, canonicalUpper};
 use crate::types::EndPair;
 use crate::types::PLUS_ZERO;

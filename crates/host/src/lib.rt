@@ -3,7 +3,7 @@ ghost use Rattle.patterns.specs.Format.{binary64};
 ghost use Rattle.meaning.specs.Bytes.{bigEndian, littleEndian};
 ghost use Rattle.meaning.specs.Requests.{BareRequest, DecoratedRequest, BareCodec, DecoratedCodec};
 ghost use Rattle.request_laws.specs.Calls.{Packed};
-use calls::packed;
+use lent_calls::packed;
 
 // One operation on bare intervals: 33 bytes in, 16 out.
 #[no_mangle]

@@ -14,9 +14,9 @@ use Rattle.meaning.specs.Pairs.{worth, endOf}
 use Rattle.meaning.specs.Decorations.{SameEnd, sameNumber, sameNone}
 use Rattle.meaning.proofs.FractionLaws.{lt-not-le, eq-le, eq-ge, antisymm}
 use Rattle.meaning.proofs.PairLaws.{end-finite, end-infinity, end-minusInfinity}
-use Rattle.flags.specs.Answers.{Answers}
+use Rattle.truth.specs.Answers.{Answers}
 use Rattle.end_pairs.specs.Keys.{keyOf}
-use Rattle.flags.proofs.AnswerLaws.{answers-eq}
+use Rattle.truth.proofs.AnswerLaws.{answers-eq}
 use Rattle.end_pairs.proofs.KeyLaws.{key-le, key-lt, finite-keys}
 use Rattle.integer.specs.Jumping.{OneSide, lowers, uppers}
 

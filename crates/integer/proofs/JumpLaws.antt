@@ -21,8 +21,8 @@ use Rattle.meaning.specs.Statement.{HullOf}
 use Rattle.meaning.proofs.FractionLaws.{eq-sym, eq-trans}
 use Rattle.meaning.proofs.PairLaws.{end-finite, set-proper}
 use Rattle.meaning.proofs.Unique.{hull-once}
-use Rattle.flags.specs.Answers.{Answers}
-use Rattle.flags.proofs.AnswerLaws.{answers-iff}
+use Rattle.truth.specs.Answers.{Answers}
+use Rattle.truth.proofs.AnswerLaws.{answers-iff}
 use Rattle.end_pairs.proofs.EmptyLaws.{not-empty, empty-hull₁}
 use Rattle.wholes.specs.Made.{operation}
 use Rattle.wholes.specs.declared.functions.Function.{Function}

@@ -3,7 +3,7 @@ ghost use Rattle.patterns.specs.Format.{binary64};
 ghost use Rattle.meaning.specs.Pairs.{Bare, setOf};
 ghost use Rattle.meaning.specs.Results.{Result₁};
 ghost use Rattle.meaning.specs.Statement.{HullOf};
-ghost use Rattle.end_pairs.specs.Conversions.{pairOf};
+ghost use Rattle.end_pairs.specs.EndPairMeaning.{pairOf};
 ghost use Rattle.wholes.specs.Made.{operation};
 use crate::ends::upper_end;
 use end_pairs::EndPair;

@@ -9,7 +9,7 @@ use lib.ListN.{length, getD, take, drop, set, length-drop, drop-of-length-le}
 use lib.Seq.{drop-cons, getD-drop, getD-take, set-at}
 use Rattle.meaning.specs.Pairs.{Pair}
 use Rattle.meaning.specs.Bytes.{ByteOrder, readPair}
-use Rattle.end_bytes.proofs.PlaceLaws.{part-ends}
+use Rattle.ends_in_bytes.proofs.EightByteLaws.{part-ends}
 
 -- Ends that are read from a position on are those of the part of an interval's size, or of more, that starts there.
 pub read-part : (o : ByteOrder) (n start : ℕ) (s : List ℕ) {p : Pair} → 8 ≤ n → start + 16 ≤ length s → p ≡ readPair o (drop start s)

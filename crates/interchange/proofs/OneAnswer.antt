@@ -7,14 +7,14 @@ use Rattle.meaning.specs.Pairs.{Pair}
 use Rattle.meaning.specs.Statement.{Answered₁, DecPair, JudgedBare, JudgedDecorated}
 use Rattle.meaning.specs.Bytes.{ByteOrder, readPair, JudgedBytes, JudgedDecBytes, ReadDecorated}
 use Rattle.meaning.proofs.Unique.{one-answer₁, written-once, judged-bare-once}
-use Rattle.interval.specs.Conversions.{outcome}
-use Rattle.dec_interval.specs.Conversions.{decOutcome}
+use Rattle.interval.specs.IntervalMeaning.{outcome}
+use Rattle.dec_interval.specs.DecIntervalMeaning.{decOutcome}
 use Rattle.interval.specs.declared.answers.Answer.{Answer}
 use Rattle.dec_interval.specs.declared.answers.DecAnswer.{DecAnswer}
 use Rattle.interval.proofs.Codes.{answer-known}
 use Rattle.dec_interval.proofs.Codes.{decAnswer-known}
-use Rattle.states.proofs.VerdictLaws.{judged-decorated-once, judged-bytes-once, judged-decBytes-once}
-use Rattle.states.proofs.ReadingLaws.{read-once, tidied-once}
+use Rattle.uniqueness.proofs.VerdictLaws.{judged-decorated-once, judged-bytes-once, judged-decBytes-once}
+use Rattle.uniqueness.proofs.ReadingLaws.{read-once, tidied-once}
 use Rattle.dec_interval.proofs.Once.{tidiedDec-once}
 use Rattle.interchange.specs.Written.{AnsweredBy, WrittenBare, WrittenDec, bytesAnswerOf, decBytesAnswerOf}
 use Rattle.interchange.specs.declared.bare.BytesAnswer.{BytesAnswer}

@@ -9,7 +9,7 @@ use Rattle.meaning.specs.Pairs.{Pair, Canonical, NaNs}
 use Rattle.meaning.specs.Decorations as meant
 use Rattle.meaning.specs.Statement.{Outcome, refused, Found₁, Answered₁, first₁, right₁, DecPair, Ends, JudgedDecorated, decoratedFive, decoratedSix}
 use Rattle.meaning.specs.Bytes.{ByteOrder, readPair, SaysDecoration, BytesEnds, canonicalEnds, nanEnds, JudgedDecBytes, decBytesFive, decBytesSix, decBytesGood, ReadDecorated, readNaI, readInterval}
-use Rattle.decorations.specs.Conversions.{decorationOf}
+use Rattle.decorations.specs.DecorationMeaning.{decorationOf}
 use Rattle.decorations.specs.declared.types.Decoration.{Decoration}
 use Rattle.interchange.specs.Reading.{SaidBy, says, saysNone, JudgedRead, readFive, readSix, readGood, ReadAs, asNaI, asItself}
 use Rattle.interchange.specs.declared.reading.ByteDecoration.{ByteDecoration}

@@ -15,7 +15,7 @@ use Rattle.meaning.specs.Pairs.{Pair, NaN, NaNs, Bare, Canonical}
 use Rattle.meaning.specs.Decorations.{Decoration, Ill, decorationByte}
 use Rattle.meaning.specs.Statement.{sound, given, Answered₁, right₁, DecPair, naI, Agrees, JudgedDecorated}
 use Rattle.meaning.specs.Bytes.{ByteOrder, readPair, writePair, JudgedBytes, bytesGood, SaysDecoration, BytesEnds, canonicalEnds, nanEnds, JudgedDecBytes, decBytesGood, ReadDecorated, readNaI, readInterval, Tidied, writeDecorated}
-use Rattle.states.proofs.ReadingLaws.{tidied-once}
+use Rattle.uniqueness.proofs.ReadingLaws.{tidied-once}
 use Rattle.end_pairs.specs.Zeros.{canonicalPair}
 use Rattle.end_pairs.proofs.TestLaws.{lower-pattern, upper-pattern}
 use Rattle.end_pairs.proofs.KindLaws.{bare-not-nans, only-bare}
@@ -23,8 +23,8 @@ use Rattle.end_pairs.proofs.ZeroLaws.{tidied}
 use Rattle.decorations.proofs.AgreeLaws.{agrees-nans, canonical-agrees, sound-ends, sound-agrees}
 use Rattle.dec_interval.specs.Values.{TidiedDec, tidiedNaI, tidiedInterval}
 use Rattle.dec_interval.proofs.Once.{tidiedDec-once}
-use Rattle.end_bytes.proofs.PlaceLaws.{length-pair}
-use Rattle.end_bytes.proofs.DigitLaws.{Bytes, pair-read, pair-written}
+use Rattle.ends_in_bytes.proofs.EightByteLaws.{length-pair}
+use Rattle.ends_in_bytes.proofs.DigitLaws.{Bytes, pair-read, pair-written}
 use Rattle.interchange.specs.Written.{WrittenBare, WrittenDec}
 
 -- The NaN that is written is one.

@@ -6,7 +6,7 @@ use Rattle.meaning.specs.Pairs.{NaNs}
 use Rattle.meaning.specs.Decorations as meant
 use Rattle.meaning.specs.Statement.{Verdict, sound, wrong, DecPair, naI, Agrees}
 use Rattle.meaning.specs.Bytes.{BytesEnds}
-use Rattle.decorations.specs.Conversions.{decorationOf}
+use Rattle.decorations.specs.DecorationMeaning.{decorationOf}
 use Rattle.decorations.specs.declared.types.Decoration.{Decoration}
 use Rattle.interchange.specs.declared.reading.ByteDecoration.{ByteDecoration}
 

@@ -2,8 +2,8 @@
 ghost use Rattle.patterns.specs.Format.{binary64};
 ghost use Rattle.meaning.specs.Pairs.{Canonical};
 ghost use Rattle.meaning.specs.Bytes.{BytesEnds};
-ghost use Rattle.flags.specs.Answers.{Answers};
-ghost use Rattle.end_pairs.specs.Conversions.{pairOf};
+ghost use Rattle.truth.specs.Answers.{Answers};
+ghost use Rattle.end_pairs.specs.EndPairMeaning.{pairOf};
 use end_pairs::EndPair;
 use end_pairs::PLUS_ZERO;
 use end_pairs::SIGN;

@@ -2,8 +2,8 @@
 ghost use Rattle.patterns.specs.Format.{binary64};
 ghost use Rattle.meaning.specs.Statement.{Answered₁, JudgedDecorated};
 ghost use Rattle.meaning.specs.Bytes.{bigEndian, littleEndian, JudgedDecBytes, ReadDecorated};
-ghost use Rattle.dec_interval.specs.Conversions.{decPairOf, decOutcome};
-ghost use Rattle.end_bytes.specs.Conversions.{orderOf};
+ghost use Rattle.dec_interval.specs.DecIntervalMeaning.{decPairOf, decOutcome};
+ghost use Rattle.ends_in_bytes.specs.ByteOrderMeaning.{orderOf};
 ghost use Rattle.interchange.specs.Written.{AnsweredBy, WrittenDec, decBytesAnswerOf};
 use crate::lent::DECORATED;
 use crate::lent::read_decorated;
@@ -12,7 +12,7 @@ use dec_interval::DecAnswer;
 use dec_interval::DecInterval;
 use dec_interval::canonical_dec;
 use decorations::judge_dec;
-use end_bytes::ByteOrder;
+use ends_in_bytes::ByteOrder;
 use interval::Verdict;
 use refusals::Refusal;
 

@@ -2,9 +2,9 @@
 ghost use Rattle.patterns.specs.Format.{binary64};
 ghost use Rattle.meaning.specs.Statement.{Answered₁};
 ghost use Rattle.meaning.specs.Bytes.{BytesEnds};
-ghost use Rattle.decorations.specs.Conversions.{decorationOf};
-ghost use Rattle.dec_interval.specs.Conversions.{decPairOf, decOutcome};
-ghost use Rattle.end_pairs.specs.Conversions.{pairOf};
+ghost use Rattle.decorations.specs.DecorationMeaning.{decorationOf};
+ghost use Rattle.dec_interval.specs.DecIntervalMeaning.{decPairOf, decOutcome};
+ghost use Rattle.end_pairs.specs.EndPairMeaning.{pairOf};
 ghost use Rattle.interchange.specs.Reading.{SaidBy, JudgedRead, ReadAs};
 use crate::canonical::has_bytes_ends;
 use dec_interval::DecAnswer;

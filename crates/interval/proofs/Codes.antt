@@ -6,7 +6,7 @@ use Rattle.meaning.specs.Pairs.{Pair}
 use Rattle.meaning.specs.Classes.{Class}
 use Rattle.meaning.specs.Statement.{Outcome, refused, given}
 use Rattle.classify.proofs.ClassOnce.{codeOf, code-back}
-use Rattle.interval.specs.Conversions.{outcome, boolOutcome, endOutcome, classOutcome}
+use Rattle.interval.specs.IntervalMeaning.{outcome, boolOutcome, endOutcome, classOutcome}
 use Rattle.interval.specs.declared.types.Interval.{Interval}
 use Rattle.interval.specs.declared.answers.Answer.{Answer}
 use Rattle.interval.specs.declared.answers.BoolAnswer.{BoolAnswer}

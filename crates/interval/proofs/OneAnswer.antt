@@ -8,11 +8,11 @@ use Rattle.meaning.specs.Decorations.{Common, Point}
 use Rattle.meaning.specs.Statement.{Outcome, Verdict, Answered₁, JudgedBare}
 use Rattle.meaning.specs.Bytes.{Tidied}
 use Rattle.meaning.proofs.Unique.{one-answer₁, judged-bare-once}
-use Rattle.flags.specs.Answers.{Answers}
-use Rattle.flags.proofs.AnswerLaws.{answers-once}
-use Rattle.states.proofs.ReadingLaws.{tidied-once}
+use Rattle.truth.specs.Answers.{Answers}
+use Rattle.truth.proofs.AnswerLaws.{answers-once}
+use Rattle.uniqueness.proofs.ReadingLaws.{tidied-once}
 use Rattle.classify.proofs.ClassOnce.{class-once}
-use Rattle.interval.specs.Conversions.{outcome, boolOutcome, endOutcome, classOutcome}
+use Rattle.interval.specs.IntervalMeaning.{outcome, boolOutcome, endOutcome, classOutcome}
 use Rattle.interval.specs.Values.{LowerOf, UpperOf}
 use Rattle.interval.proofs.Codes.{answer-known, boolAnswer-known, endAnswer-known, classAnswer-known}
 use Rattle.interval.proofs.Once.{lower-once, upper-once}

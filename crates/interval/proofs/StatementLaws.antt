@@ -5,7 +5,7 @@ use Rattle.patterns.specs.Format.{Format}
 use Rattle.meaning.specs.Pairs.{Pair, Bare}
 use Rattle.meaning.specs.Statement as stated
 use Rattle.meaning.specs.Statement.{sound, refused, given, Found₁, Found₂, Answered₁, first₁, right₁, Answered₂, first₂, second₂, right₂, JudgedBare, bareGood}
-use Rattle.interval.specs.Conversions.{verdictOf}
+use Rattle.interval.specs.IntervalMeaning.{verdictOf}
 use Rattle.interval.specs.declared.answers.Verdict.{Verdict}
 
 module _ {A : Type 0} {Judged : A → stated.Verdict → Type 0} {x : A} {v : Verdict} (found : Found₁ Judged x (verdictOf v)) where

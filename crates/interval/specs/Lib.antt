@@ -1,3 +1,3 @@
 -- What the contracts of bare intervals cite.
-pub mod Conversions
+pub mod IntervalMeaning
 pub mod Values

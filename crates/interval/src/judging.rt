@@ -1,7 +1,7 @@
 // What is found of an operand that anybody can have written.
 ghost use Rattle.patterns.specs.Format.{binary64};
 ghost use Rattle.meaning.specs.Statement.{Found₁, JudgedBare};
-ghost use Rattle.interval.specs.Conversions.{pairOf, verdictOf};
+ghost use Rattle.interval.specs.IntervalMeaning.{pairOf, verdictOf};
 use crate::answers::Verdict;
 use crate::types::Interval;
 use end_pairs::is_bare;

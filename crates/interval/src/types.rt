@@ -2,8 +2,8 @@
 ghost use mathlib.Core.Path.{_≡_};
 ghost use Rattle.patterns.specs.Format.{binary64};
 ghost use Rattle.meaning.specs.Pairs.{Bare};
-ghost use Rattle.end_pairs.specs.Conversions as two;
-ghost use Rattle.interval.specs.Conversions.{pairOf};
+ghost use Rattle.end_pairs.specs.EndPairMeaning as two;
+ghost use Rattle.interval.specs.IntervalMeaning.{pairOf};
 use end_pairs::EndPair;
 
 // An interval with f64 bounds, as the bit patterns of its ends.

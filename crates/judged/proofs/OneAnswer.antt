@@ -6,9 +6,9 @@ use Rattle.meaning.specs.Points.{Unary}
 use Rattle.meaning.specs.Results.{Operation}
 use Rattle.meaning.specs.Statement.{DecPair, Bare₁, Bare₂, Decorated₁, Decorated₂}
 use Rattle.meaning.proofs.Unique.{bare₁-once, bare₂-once}
-use Rattle.states.proofs.DecoratedLaws.{decorated₁-once, decorated₂-once}
-use Rattle.interval.specs.Conversions.{outcome}
-use Rattle.dec_interval.specs.Conversions.{decOutcome}
+use Rattle.uniqueness.proofs.DecoratedLaws.{decorated₁-once, decorated₂-once}
+use Rattle.interval.specs.IntervalMeaning.{outcome}
+use Rattle.dec_interval.specs.DecIntervalMeaning.{decOutcome}
 use Rattle.interval.specs.declared.answers.Answer.{Answer}
 use Rattle.dec_interval.specs.declared.answers.DecAnswer.{DecAnswer}
 use Rattle.interval.proofs.Codes.{answer-known}

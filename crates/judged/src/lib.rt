@@ -1,8 +1,8 @@
 // Any operation by name on any values: operands are judged first, the first before the second.
 ghost use Rattle.patterns.specs.Format.{binary64};
 ghost use Rattle.meaning.specs.Statement.{Bare₁, Bare₂, Decorated₁, Decorated₂};
-ghost use Rattle.interval.specs.Conversions.{pairOf, outcome};
-ghost use Rattle.dec_interval.specs.Conversions.{decPairOf, decOutcome};
+ghost use Rattle.interval.specs.IntervalMeaning.{pairOf, outcome};
+ghost use Rattle.dec_interval.specs.DecIntervalMeaning.{decPairOf, decOutcome};
 ghost use Rattle.operations.specs.Names.{unaryOf, binaryOf};
 use dec_interval::DecAnswer;
 use dec_interval::DecInterval;
@@ -11,8 +11,8 @@ use interval::Answer;
 use interval::Interval;
 use interval::Verdict;
 use interval::judge;
-use operands::judge_two;
-use operands::judge_two_dec;
+use operation_steps::judge_two;
+use operation_steps::judge_two_dec;
 use operations::Binary;
 use operations::Unary;
 use operations::combine;

@@ -1,8 +1,8 @@
 // What a divisor's class says of a quotient.
 ghost use mathlib.Core.Path.{_≡_};
-ghost use Rattle.classify.specs.Conversions.{classOf};
-ghost use Rattle.exact_ends.specs.Answer.{isZero};
-ghost use Rattle.decorations.specs.Conversions.{decorationOf};
+ghost use Rattle.classify.specs.ClassMeaning.{classOf};
+ghost use Rattle.theorem3.specs.Answer.{isZero};
+ghost use Rattle.decorations.specs.DecorationMeaning.{decorationOf};
 ghost use Rattle.kinds.specs.Allowed.{allowedBy};
 use classify::IntervalClass;
 use decorations::Decoration;

@@ -1,9 +1,9 @@
 // The kinds of operands that the tables tell apart.
 ghost use mathlib.Core.Path.{_≡_};
-ghost use Rattle.classify.specs.Conversions.{classOf};
-ghost use Rattle.exact_ends.specs.Tables.{kindOf, mirrorKind};
+ghost use Rattle.classify.specs.ClassMeaning.{classOf};
+ghost use Rattle.theorem3.specs.Tables.{kindOf, mirrorKind};
 use classify::IntervalClass;
-use exact_ends::Kind;
+use theorem3::Kind;
 
 // EMPTY is answered before the tables are asked; an arm for it has to be there all the same.
 pub fn kind_of(x: IntervalClass) -> Kind

@@ -5,9 +5,9 @@ ghost use Rattle.meaning.specs.Pairs.{Bare, setOf};
 ghost use Rattle.meaning.specs.Results.{Result₁};
 ghost use Rattle.meaning.specs.Decorations.{Allows₁, Allows₂};
 ghost use Rattle.meaning.specs.Statement.{HullOf, JudgedDecorated, sound, RightDec₁, RightDec₂};
-ghost use Rattle.end_pairs.specs.Conversions.{pairOf};
-ghost use Rattle.decorations.specs.Conversions.{decorationOf};
-ghost use Rattle.dec_interval.specs.Conversions.{decPairOf};
+ghost use Rattle.end_pairs.specs.EndPairMeaning.{pairOf};
+ghost use Rattle.decorations.specs.DecorationMeaning.{decorationOf};
+ghost use Rattle.dec_interval.specs.DecIntervalMeaning.{decPairOf};
 ghost use Rattle.operations.specs.Names.{unaryOf, binaryOf};
 use crate::bare::combine;
 use crate::bare::image;
@@ -18,10 +18,10 @@ use dec_interval::DecInterval;
 use decorations::Decoration;
 use end_pairs::EndPair;
 use integer::allowed;
-use operands::Operands;
-use operands::decorate;
-use operands::one_operand;
-use operands::two_operands;
+use operation_steps::Operands;
+use operation_steps::decorate;
+use operation_steps::one_operand;
+use operation_steps::two_operands;
 
 // The highest decoration that the result `z` on the operand `x` may have.
 fn allowed_one(f: Unary, x: EndPair, z: EndPair) -> Decoration

@@ -12,8 +12,8 @@ use Rattle.meaning.proofs.FractionLaws.{antisymm}
 use Rattle.meaning.proofs.PairLaws.{end-finite, end-infinity, end-minusInfinity, set-proper, set-empty}
 use Rattle.end_pairs.specs.Keys.{keyOf}
 use Rattle.end_pairs.proofs.KeyLaws.{key-le, key-lt, key-infinity, key-minusInfinity, finite-keys}
-use Rattle.states.specs.Order.{Keys}
-use Rattle.states.proofs.KeyLaws.{by-keys}
+use Rattle.uniqueness.specs.Order.{Keys}
+use Rattle.uniqueness.proofs.KeyLaws.{by-keys}
 
 -- The key of a number, and of an infinity.
 data Keyed (F : Format) : ℕ → Extended → Type 0 where

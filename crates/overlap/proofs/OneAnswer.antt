@@ -7,9 +7,9 @@ use Rattle.patterns.specs.Format.{Format}
 use Rattle.meaning.specs.Pairs.{Pair}
 use Rattle.meaning.specs.Statement.{Outcome, refused, given, DecPair}
 use Rattle.meaning.specs.Overlap.{BareOverlap, DecOverlap}
-use Rattle.states.proofs.OverlapLaws.{bareOverlap-once, decOverlap-once}
+use Rattle.uniqueness.proofs.OverlapLaws.{bareOverlap-once, decOverlap-once}
 use Rattle.interval.proofs.Codes.{injective}
-use Rattle.overlap.specs.Conversions.{overlapOutcome}
+use Rattle.overlap.specs.OverlapMeaning.{overlapOutcome}
 use Rattle.overlap.specs.declared.state.Overlap.{Overlap}
 use Rattle.overlap.specs.declared.answers.OverlapAnswer.{OverlapAnswer}
 

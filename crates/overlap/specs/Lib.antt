@@ -1,2 +1,2 @@
 -- What the contracts of overlap cite.
-pub mod Conversions
+pub mod OverlapMeaning

@@ -1,7 +1,7 @@
 // What overlap answers, and document 01's number of each answer.
 ghost use mathlib.Core.Path.{_≡_};
 ghost use Rattle.meaning.specs.Overlap.{stateNumber};
-ghost use Rattle.overlap.specs.Conversions.{stateOf, decNumberOf};
+ghost use Rattle.overlap.specs.OverlapMeaning.{stateOf, decNumberOf};
 use crate::state::Overlap;
 use refusals::Refusal;
 

@@ -2,7 +2,7 @@
 ghost use mathlib.Core.Path.{_≡_};
 ghost use Prim.Native.Nat.{_<_};
 ghost use Rattle.meaning.specs.Overlap.{Conditions};
-ghost use Rattle.overlap.specs.Conversions.{stateOf};
+ghost use Rattle.overlap.specs.OverlapMeaning.{stateOf};
 use crate::state::Overlap;
 
 // The state by how the ends of [a, b] and [c, d] compare:

@@ -1,9 +1,9 @@
 // The overlapping state of two intervals. The functions of this file take any value.
 ghost use Rattle.patterns.specs.Format.{binary64};
 ghost use Rattle.meaning.specs.Overlap.{BareOverlap, DecOverlap};
-ghost use Rattle.interval.specs.Conversions.{pairOf};
-ghost use Rattle.dec_interval.specs.Conversions.{decPairOf};
-ghost use Rattle.overlap.specs.Conversions.{overlapOutcome};
+ghost use Rattle.interval.specs.IntervalMeaning.{pairOf};
+ghost use Rattle.dec_interval.specs.DecIntervalMeaning.{decPairOf};
+ghost use Rattle.overlap.specs.OverlapMeaning.{overlapOutcome};
 
 mod answers;
 mod ends;
@@ -17,8 +17,8 @@ pub use answers::state_number;
 use dec_interval::DecInterval;
 use interval::Interval;
 use interval::Verdict;
-use operands::judge_two;
-use operands::judge_two_dec;
+use operation_steps::judge_two;
+use operation_steps::judge_two_dec;
 pub use state::Overlap;
 pub use valid::overlap_of;
 pub use valid::overlap_of_dec;

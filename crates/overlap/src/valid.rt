@@ -3,9 +3,9 @@ ghost use Rattle.patterns.specs.Format.{binary64};
 ghost use Rattle.meaning.specs.Pairs.{Bare, setOf};
 ghost use Rattle.meaning.specs.Overlap.{OverlapOf, DecoratedOverlap};
 ghost use Rattle.meaning.specs.Statement.{JudgedDecorated, sound};
-ghost use Rattle.end_pairs.specs.Conversions.{pairOf};
-ghost use Rattle.dec_interval.specs.Conversions.{decPairOf};
-ghost use Rattle.overlap.specs.Conversions.{stateOf, decNumberOf};
+ghost use Rattle.end_pairs.specs.EndPairMeaning.{pairOf};
+ghost use Rattle.dec_interval.specs.DecIntervalMeaning.{decPairOf};
+ghost use Rattle.overlap.specs.OverlapMeaning.{stateOf, decNumberOf};
 use crate::answers::DecState;
 use crate::ends::compare;
 use crate::state::Overlap;
@@ -13,8 +13,8 @@ use dec_interval::DecInterval;
 use end_pairs::EndPair;
 use end_pairs::is_empty_pair;
 use end_pairs::key;
-use operands::Operands;
-use operands::two_operands;
+use operation_steps::Operands;
+use operation_steps::two_operands;
 
 // The state of two bare intervals by their ends.
 pub fn overlap_of(x: EndPair, y: EndPair) -> Overlap

@@ -1,6 +1,6 @@
 // Magnitudes, which are patterns without a sign.
 ghost use Prim.Native.Nat.{_*_, _/_, _^_, _<_, _≤_};
-ghost use Rattle.flags.specs.Answers.{Answers};
+ghost use Rattle.truth.specs.Answers.{Answers};
 ghost use Rattle.packing.specs.Magnitude.{Unpacks, Normalised};
 
 // A magnitude of worth significand * 2^exponent.

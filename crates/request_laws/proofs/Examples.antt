@@ -14,8 +14,8 @@ use Rattle.meaning.specs.Statement.{DecPair, given, noRefusal, sound, HullOf, R
 use Rattle.meaning.specs.Bytes.{ByteOrder, bigEndian, littleEndian, JudgedBytes, bytesGood, JudgedDecBytes, decBytesGood, canonicalEnds, ReadDecorated, readInterval, readPair, writePair, writeDecorated, Written}
 use Rattle.meaning.specs.Calls.{passed}
 use Rattle.meaning.specs.Requests.{binary, operationNumber, zeros, bareSize, decoratedSize, firstOperand, BareRequest, DecoratedRequest, BareCodec, DecoratedCodec}
-use Rattle.states.proofs.PairLaws.{bare-not-nans}
-use Rattle.exact_ends.specs.Answer.{adding}
+use Rattle.uniqueness.proofs.PairLaws.{bare-not-nans}
+use Rattle.theorem3.specs.Answer.{adding}
 use Rattle.cases.specs.Table.{only, one, two, decoratedBy}
 use Rattle.cases.proofs.RowTests.{arithmetic-hull}
 use Rattle.cases.proofs.DecoratedTests.{decorated-tested}

@@ -6,8 +6,8 @@ use Rattle.patterns.specs.Format.{Format}
 use Rattle.meaning.specs.Bytes.{ByteOrder}
 use Rattle.meaning.specs.Requests.{BareRequest, DecoratedRequest, BareCodec, DecoratedCodec}
 use Rattle.meaning.proofs.Unique.{one-answer₁, written-once}
-use Rattle.states.proofs.VerdictLaws.{judged-bytes-once, judged-decBytes-once}
-use Rattle.states.proofs.ReadingLaws.{read-once}
+use Rattle.uniqueness.proofs.VerdictLaws.{judged-bytes-once, judged-decBytes-once}
+use Rattle.uniqueness.proofs.ReadingLaws.{read-once}
 use Rattle.meaning.specs.Calls.{Left}
 use Rattle.request_laws.specs.Calls.{Statement, Leaves}
 use Rattle.meaning.proofs.CalledLaws.{called-once}

@@ -9,11 +9,11 @@ use Rattle.meaning.specs.Statement.{Outcome, DecPair}
 use Rattle.meaning.specs.Bytes.{bigEndian, readPair, ReadDecorated}
 use Rattle.meaning.specs.Requests.{Asked, unary, binary, overlap, BareOutcome, Read₁, Read₂, DecoratedOutcome, Requested, firstOperand, secondOperand}
 use Rattle.meaning.proofs.Unique.{One, one-answer₁, one-answer₂, one-sound-answer, written-once, hull-once}
-use Rattle.states.proofs.VerdictLaws.{judged-bytes-once, judged-decBytes-once}
-use Rattle.states.proofs.DecoratedLaws.{right-decorated-once}
-use Rattle.states.proofs.DecorationLaws.{allows₁-unique, allows₂-unique}
-use Rattle.states.proofs.OverlapLaws.{number-unique, decorated-number-unique}
-use Rattle.states.proofs.ReadingLaws.{read-once}
+use Rattle.uniqueness.proofs.VerdictLaws.{judged-bytes-once, judged-decBytes-once}
+use Rattle.uniqueness.proofs.DecoratedLaws.{right-decorated-once}
+use Rattle.uniqueness.proofs.DecorationLaws.{allows₁-unique, allows₂-unique}
+use Rattle.uniqueness.proofs.OverlapLaws.{number-unique, decorated-number-unique}
+use Rattle.uniqueness.proofs.ReadingLaws.{read-once}
 use Rattle.meaning.proofs.OperationNumbers.{asks-once}
 use Rattle.request_laws.proofs.SoundLaws.{sound-valid, sound-ends}
 

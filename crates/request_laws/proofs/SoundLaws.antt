@@ -13,8 +13,8 @@ use Rattle.meaning.specs.Decorations.{Decoration}
 use Rattle.meaning.specs.Statement.{sound, DecPair, naI, Ends, Agrees, JudgedDecorated, decoratedGood}
 use Rattle.meaning.specs.Bytes.{ByteOrder, readPair, BytesEnds, canonicalEnds, nanEnds, JudgedBytes, bytesGood, JudgedDecBytes, decBytesGood, ReadDecorated, readNaI, readInterval}
 use Rattle.meaning.proofs.PairLaws.{set-valid}
-use Rattle.states.proofs.PairLaws.{proper-not-nans, empty-not-nans}
-use Rattle.states.proofs.VerdictLaws.{says-once}
+use Rattle.uniqueness.proofs.PairLaws.{proper-not-nans, empty-not-nans}
+use Rattle.uniqueness.proofs.VerdictLaws.{says-once}
 
 module _ (F : Format) where
   quiet-below : quietNaN F < signBit F

@@ -1,7 +1,7 @@
 // The three roundings over columns of patterns, for the benchmark's host to call.
 ghost use mathlib.Core.Path.{_≡_};
 ghost use lib.ListN.{length};
-ghost use Rattle.flags.specs.Answers.{Answers};
+ghost use Rattle.truth.specs.Answers.{Answers};
 ghost use Rattle.rounding_exports.specs.Columns.{Filled, FilledOrRefused, TakesRows};
 use rounding_runs::roundings::Operation;
 use rounding_runs::roundings::rounded;

@@ -2,7 +2,7 @@
 ghost use Prim.Native.Nat.{_+_, _*_, _/_, _≤_};
 ghost use mathlib.Core.Path.{_≡_};
 ghost use lib.ListN.{length};
-ghost use Rattle.flags.specs.Answers.{Answers};
+ghost use Rattle.truth.specs.Answers.{Answers};
 ghost use Rattle.rounding_runs.specs.Cases.{Counted, FirstWrong, Right, RightCase, Says, SomeRightCase, WrongCase, numberOf};
 use crate::roundings::Operation;
 use crate::roundings::rounded;

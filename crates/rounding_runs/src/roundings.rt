@@ -1,5 +1,5 @@
 // The operations on two finite doubles, by name.
-ghost use Rattle.flags.specs.Answers.{Answers};
+ghost use Rattle.truth.specs.Answers.{Answers};
 ghost use Rattle.patterns.specs.Format.{binary64};
 ghost use Rattle.patterns.specs.Rounding.{Up};
 ghost use Rattle.rounding_runs.specs.Operations.{SecondOf, Takes, exactOf};

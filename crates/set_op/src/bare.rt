@@ -3,7 +3,7 @@ ghost use Rattle.patterns.specs.Format.{binary64};
 ghost use Rattle.meaning.specs.Pairs.{Proper, Bare, setOf};
 ghost use Rattle.meaning.specs.Results.{Result₂, convexHull, intersection};
 ghost use Rattle.meaning.specs.Statement.{HullOf};
-ghost use Rattle.end_pairs.specs.Conversions.{pairOf};
+ghost use Rattle.end_pairs.specs.EndPairMeaning.{pairOf};
 use end_pairs::EndPair;
 use end_pairs::canonical;
 use end_pairs::either_empty;

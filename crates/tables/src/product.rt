@@ -1,8 +1,8 @@
 // The product's table.
 ghost use mathlib.Core.Path.{_≡_};
-ghost use Rattle.exact_ends.specs.Tables.{productCorner};
-use exact_ends::Corner;
-use exact_ends::Kind;
+ghost use Rattle.theorem3.specs.Tables.{productCorner};
+use theorem3::Corner;
+use theorem3::Kind;
 
 // The upper end of [a, b] * [c, d]:
 //

@@ -1,10 +1,10 @@
 // The quotient's table.
 ghost use mathlib.Core.Path.{_≡_};
-ghost use Rattle.classify.specs.Conversions.{classOf};
-ghost use Rattle.exact_ends.specs.Tables.{quotientCorner};
+ghost use Rattle.classify.specs.ClassMeaning.{classOf};
+ghost use Rattle.theorem3.specs.Tables.{quotientCorner};
 use classify::IntervalClass;
-use exact_ends::Corner;
-use exact_ends::Kind;
+use theorem3::Corner;
+use theorem3::Kind;
 
 // The upper end of [a, b] / [c, d], where the divisor is not Z:
 //

@@ -10,16 +10,16 @@
 //  the interval part that NaI lacks        | zeros, and 255 last
 use crate::values::Operand;
 use crate::values::ends_of;
-use calls::REPLY;
+use lent_calls::REPLY;
 use classify::IntervalClass;
 use dec_interval::DecAnswer;
 use dec_interval::DecInterval;
 use dec_interval::DecorationAnswer;
 use dec_interval::PartAnswer;
 use decorations::decoration_byte;
-use end_bytes::ByteOrder;
-use end_bytes::read_ends;
-use end_bytes::write_ends;
+use ends_in_bytes::ByteOrder;
+use ends_in_bytes::read_ends;
+use ends_in_bytes::write_ends;
 use end_pairs::EndPair;
 use interchange::BARE;
 use interchange::bare::BytesAnswer;

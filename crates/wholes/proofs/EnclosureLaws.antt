@@ -10,8 +10,8 @@ use Rattle.patterns.specs.Value.{value}
 use Rattle.patterns.proofs.SignLaws.{infinity-below, plus-positive, minus-positive}
 use Rattle.meaning.specs.Fraction.{Fraction, _≺_, _≈_, _⊕_, whole, Even}
 use Rattle.meaning.specs.Pairs.{worth}
-use Rattle.flags.specs.Answers.{Answers}
-use Rattle.flags.proofs.AnswerLaws.{answers-eq}
+use Rattle.truth.specs.Answers.{Answers}
+use Rattle.truth.proofs.AnswerLaws.{answers-eq}
 use Rattle.wholes.specs.Enclosure.{Lies, before, same, past, OnSide, belowHalf, atHalf, aboveHalf, Encloses}
 use Rattle.wholes.specs.declared.split.Side.{Side}
 

@@ -3,5 +3,5 @@ pub mod DigitLaws
 pub mod EnclosureLaws
 pub mod PickLaws
 pub mod SplitLaws
-pub mod PartLaws
+pub mod MagnitudeLaws
 pub mod SignedLaws

@@ -18,8 +18,8 @@ use Rattle.meaning.proofs.PairLaws.{worth-opposite}
 use Rattle.points.specs.Functions.{Mirrors}
 use Rattle.points.proofs.PointLaws.{mirror-back, mirror-makes}
 use Rattle.points.proofs.ZeroLaws.{sign-zero, sign-above, sign-same}
-use Rattle.flags.specs.Answers.{Answers}
-use Rattle.flags.proofs.AnswerLaws.{answers-iff}
+use Rattle.truth.specs.Answers.{Answers}
+use Rattle.truth.proofs.AnswerLaws.{answers-iff}
 use Rattle.wholes.specs.Made.{Number, Made, MadeMagnitude, NegativeOf}
 use Rattle.wholes.proofs.EnclosureLaws.{parts, worth-magnitude, natural}
 use Rattle.wholes.proofs.PickLaws.{floor-trunc}

@@ -4,7 +4,7 @@ use Prim.Native.Nat.{ℕ, _+_, _-_, _*_, _^_, _<_, _≤_}
 use Rattle.patterns.specs.Format.{Format, infinity}
 use Rattle.meaning.specs.Fraction.{Fraction, _≺_, _≈_, _⊕_, whole, half, Whole, Even}
 use Rattle.meaning.specs.Pairs.{worth}
-use Rattle.flags.specs.Answers.{Answers}
+use Rattle.truth.specs.Answers.{Answers}
 use Rattle.wholes.specs.declared.split.Side.{Side}
 use Rattle.wholes.specs.declared.split.Neighbours.{Neighbours}
 use Rattle.wholes.specs.declared.split.Parts.{Parts}

@@ -5,7 +5,7 @@ ghost use Rattle.patterns.specs.Value.{Finite};
 ghost use Rattle.meaning.specs.Fraction.{_⊕_, half, Whole};
 ghost use Rattle.meaning.specs.Pairs.{worth};
 ghost use Rattle.points.specs.Functions.{Mirrors};
-ghost use Rattle.flags.specs.Answers.{Answers};
+ghost use Rattle.truth.specs.Answers.{Answers};
 ghost use Rattle.wholes.specs.Made.{operation, Made, MadeMagnitude, NegativeOf};
 use crate::magnitudes::downward;
 use crate::magnitudes::nearest;

@@ -4,7 +4,7 @@ use borrow.Author.Needs.{needs}
 use Rattle.patterns.specs.Format.{binary64, infinity, signBit}
 use Rattle.meaning.specs.Pairs.{minusInfinity}
 use Rattle.meaning.specs.Points.{div}
-use Rattle.flags.proofs.AnswerLaws.{said-yes, said-no}
+use Rattle.truth.proofs.AnswerLaws.{said-yes, said-no}
 use Rattle.end_pairs.proofs.EmptyLaws.{neither-empty, empty-hull₂}
 use Rattle.arith.proofs.BoundLaws.{divides, quotient-hull, no-quotient}
 use Rattle.arith.proofs.div_of.Statement.{statement}

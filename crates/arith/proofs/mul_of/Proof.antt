@@ -3,7 +3,7 @@ use borrow.Author.Needs.{needs}
 use Rattle.patterns.specs.Format.{binary64, infinity, signBit}
 use Rattle.meaning.specs.Pairs.{minusInfinity}
 use Rattle.meaning.specs.Points.{mul}
-use Rattle.flags.proofs.AnswerLaws.{said-yes, said-no}
+use Rattle.truth.proofs.AnswerLaws.{said-yes, said-no}
 use Rattle.end_pairs.proofs.EmptyLaws.{neither-empty, empty-hull₂}
 use Rattle.arith.proofs.BoundLaws.{product-hull}
 use Rattle.arith.proofs.mul_of.Statement.{statement}

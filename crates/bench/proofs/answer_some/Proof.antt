@@ -5,7 +5,7 @@ use native.Mathlib.Omega.{arith}
 use borrow.Author.Needs.{needs}
 use lib.ListN.{length}
 use lib.Seq.{length-take-le}
-use Rattle.bench.proofs.RunLaws.{held-stays, onward, written-fits, left-by-turn}
+use Rattle.bench.proofs.OnwardLaws.{held-stays, onward, written-fits, left-by-turn}
 use Rattle.bench.proofs.answer_some.Statement.{statement}
 use Rattle.bench.proofs.answer_some.Tie as tie
 

@@ -3,8 +3,8 @@ use native.Mathlib.Omega.{arith}
 use borrow.Author.Needs.{needs}
 use Rattle.patterns.specs.Format.{binary64, signBit}
 use Rattle.meaning.specs.Pairs.{EmptyPair, setOf}
-use Rattle.end_pairs.specs.Conversions.{pairOf}
-use Rattle.flags.proofs.AnswerLaws.{said-yes, said-no}
+use Rattle.end_pairs.specs.EndPairMeaning.{pairOf}
+use Rattle.truth.proofs.AnswerLaws.{said-yes, said-no}
 use Rattle.end_pairs.proofs.Shapes.{Shape, shape, answers-nothing}
 use Rattle.classify.proofs.ClassLaws.{class-empty, class-P1, class-N1, class-N0, class-M, class-Z, class-P0}
 use Rattle.classify.proofs.classify.Statement.{statement}

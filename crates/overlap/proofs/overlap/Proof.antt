@@ -2,7 +2,7 @@
 use mathlib.Core.Path.{refl}
 use borrow.Author.Needs.{needs}
 use Rattle.interval.proofs.StatementLaws.{sound₂, given₂, refused₂, sound-bare}
-use Rattle.overlap.specs.Conversions.{stateOf}
+use Rattle.overlap.specs.OverlapMeaning.{stateOf}
 use Rattle.overlap.proofs.overlap.Statement.{statement}
 use Rattle.overlap.proofs.overlap.Tie as tie
 

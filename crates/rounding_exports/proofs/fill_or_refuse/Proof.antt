@@ -2,7 +2,7 @@
 use mathlib.Core.Path.{refl}
 use borrow.Author.Needs.{needs}
 use borrow.Author.Tests.{not-false, not-true}
-use Rattle.flags.proofs.AnswerLaws.{said-yes, said-no}
+use Rattle.truth.proofs.AnswerLaws.{said-yes, said-no}
 use Rattle.meaning.proofs.CalledLaws.{pass, stop, written}
 use Rattle.rounding_exports.specs.Columns.{filledBy}
 use Rattle.rounding_exports.proofs.fill_or_refuse.Statement.{statement}

@@ -5,8 +5,8 @@ use mathlib.Core.Bool.{Bool, _&&_}
 use Prim.Native.Nat.{ℕ, _+_, _-_, _<_, _≤_}
 use native.Mathlib.Omega.{arith}
 use lib.ListN.{length, getD}
-use Rattle.flags.specs.Answers.{Answers, affirmed, denied}
-use Rattle.flags.proofs.AnswerLaws.{answers-iff}
+use Rattle.truth.specs.Answers.{Answers, affirmed, denied}
+use Rattle.truth.proofs.AnswerLaws.{answers-iff}
 use Rattle.rounding_runs.specs.Operations.{Takes}
 use Rattle.rounding_exports.proofs.takes_rows.Statement.{statement}
 use Rattle.rounding_exports.proofs.takes_rows.Tie as tie

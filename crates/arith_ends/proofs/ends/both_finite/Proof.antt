@@ -1,6 +1,6 @@
 -- `ends::both_finite` meets its contract: each end is tested.
 use borrow.Author.Needs.{needs}
-use Rattle.flags.proofs.AnswerLaws.{answers-iff, said-yes, no-so}
+use Rattle.truth.proofs.AnswerLaws.{answers-iff, said-yes, no-so}
 use Rattle.arith_ends.proofs.ends.both_finite.Statement.{statement}
 use Rattle.arith_ends.proofs.ends.both_finite.Tie as tie
 

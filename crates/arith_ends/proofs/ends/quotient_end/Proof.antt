@@ -2,8 +2,8 @@
 use mathlib.Core.Path.{refl}
 use borrow.Author.Needs.{needs}
 use Rattle.patterns.specs.Format.{binary64, infinity, signBit}
-use Rattle.exact_ends.specs.Ends.{quotientEnd}
-use Rattle.flags.proofs.AnswerLaws.{said-yes, said-no}
+use Rattle.theorem3.specs.Ends.{quotientEnd}
+use Rattle.truth.proofs.AnswerLaws.{said-yes, said-no}
 use Rattle.arith_ends.proofs.EndLaws.{numbers, first-infinite, second-infinite, zero-end, value-not-zero, quotient-right}
 use Rattle.arith_ends.proofs.ends.quotient_end.Statement.{statement}
 use Rattle.arith_ends.proofs.ends.quotient_end.Tie as tie

@@ -2,9 +2,9 @@
 use mathlib.Core.Path.{refl}
 use borrow.Author.Needs.{needs}
 use Rattle.patterns.specs.Format.{binary64, infinity, signBit}
-use Rattle.exact_ends.specs.Ends.{sumEnd}
-use Rattle.exact_ends.proofs.UpEnd.{up-end, sum-units}
-use Rattle.flags.proofs.AnswerLaws.{said-yes, said-no}
+use Rattle.theorem3.specs.Ends.{sumEnd}
+use Rattle.theorem3.proofs.UpEnd.{up-end, sum-units}
+use Rattle.truth.proofs.AnswerLaws.{said-yes, said-no}
 use Rattle.arith_ends.proofs.EndLaws.{numbers, either-infinite}
 use Rattle.arith_ends.proofs.ends.sum_end.Statement.{statement}
 use Rattle.arith_ends.proofs.ends.sum_end.Tie as tie

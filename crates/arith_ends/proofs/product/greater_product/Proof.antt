@@ -1,7 +1,7 @@
 -- `product::greater_product` meets its contract: the greater of two rounded ends is the greater end rounded.
 use borrow.Author.Needs.{needs}
 use Rattle.patterns.specs.Format.{binary64}
-use Rattle.flags.proofs.AnswerLaws.{said-yes, said-no}
+use Rattle.truth.proofs.AnswerLaws.{said-yes, said-no}
 use Rattle.arith_ends.proofs.GreaterLaws.{greater-first, greater-second}
 use Rattle.arith_ends.proofs.product.greater_product.Statement.{statement}
 use Rattle.arith_ends.proofs.product.greater_product.Tie as tie

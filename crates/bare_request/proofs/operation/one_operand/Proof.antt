@@ -6,7 +6,7 @@ use Rattle.meaning.specs.Results.{Result₁}
 use Rattle.meaning.specs.Statement.{HullOf}
 use Rattle.meaning.specs.Bytes.{bigEndian, writePair}
 use Rattle.operations.specs.Names.{unaryOf}
-use Rattle.interval.specs.Conversions.{outcome}
+use Rattle.interval.specs.IntervalMeaning.{outcome}
 use Rattle.meaning.proofs.CalledLaws.{written, refusing}
 use Rattle.request_laws.proofs.ReadLaws.{found₁, after₁, refused₁}
 use Rattle.bare_request.proofs.SoundOperands.{one-sound, write₁}

@@ -6,10 +6,10 @@ use Rattle.patterns.specs.Format.{binary64}
 use Rattle.meaning.specs.Pairs.{setOf}
 use Rattle.meaning.specs.Overlap.{OverlapNumber}
 use Rattle.meaning.specs.Requests.{writeState, bareSize}
-use Rattle.overlap.specs.Conversions.{stateOf}
+use Rattle.overlap.specs.OverlapMeaning.{stateOf}
 use Rattle.meaning.proofs.CalledLaws.{written, refusing}
 use Rattle.request_laws.proofs.ReadLaws.{found₂, after₂, refused₂}
-use Rattle.bare_request.specs.Conversions.{bothOf}
+use Rattle.bare_request.specs.OperandMeaning.{bothOf}
 use Rattle.bare_request.proofs.SoundOperands.{two-sound, write₂}
 use Rattle.bare_request.proofs.operation.overlap_state.Statement.{statement}
 use Rattle.bare_request.proofs.operation.overlap_state.Tie as tie

@@ -1,6 +1,6 @@
 -- `operation::read_both` meets its contract: the first operand is judged before the second.
 use borrow.Author.Needs.{needs}
-use Rattle.interval.specs.Conversions.{outcome}
+use Rattle.interval.specs.IntervalMeaning.{outcome}
 use Rattle.request_laws.proofs.ReadLaws.{found₁, both, wrong-first, wrong-second}
 use Rattle.bare_request.proofs.operation.read_both.Statement.{statement}
 use Rattle.bare_request.proofs.operation.read_both.Tie as tie

@@ -8,7 +8,7 @@ use Rattle.meaning.specs.Bytes.{bigEndian, writePair}
 use Rattle.operations.specs.Names.{binaryOf}
 use Rattle.meaning.proofs.CalledLaws.{written, refusing}
 use Rattle.request_laws.proofs.ReadLaws.{found₂, after₂, refused₂}
-use Rattle.bare_request.specs.Conversions.{bothOf}
+use Rattle.bare_request.specs.OperandMeaning.{bothOf}
 use Rattle.bare_request.proofs.SoundOperands.{two-sound, write₂}
 use Rattle.bare_request.proofs.operation.two_operands.Statement.{statement}
 use Rattle.bare_request.proofs.operation.two_operands.Tie as tie

@@ -6,7 +6,7 @@ use native.Mathlib.Numerals.{add-one}
 use native.Mathlib.Omega.{arith}
 use borrow.Author.Needs.{needs}
 use lib.ListN.{length, getD, set, length-set}
-use Rattle.bench_run.proofs.PlaceLaws.{moved, moved-more}
+use Rattle.bench_run.proofs.FrontLaws.{moved, moved-more}
 use Rattle.bench_run.proofs.rest.keep_rest.Statement.{statement}
 use Rattle.bench_run.proofs.rest.keep_rest.Tie as tie
 

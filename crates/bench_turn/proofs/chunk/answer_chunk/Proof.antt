@@ -5,7 +5,7 @@ use native.Mathlib.Omega.{arith}
 use borrow.Author.Needs.{needs}
 use lib.ListN.{length, take, drop}
 use Rattle.request_laws.specs.Chunk.{requestSize, replySize, part, Replied, Chunk}
-use Rattle.bench_turn.proofs.PlaceLaws.{copied-at}
+use Rattle.bench_turn.proofs.PutLaws.{copied-at}
 use Rattle.bench_turn.proofs.ChunkLaws.{chunk-none, chunk-more}
 use Rattle.bench_turn.proofs.chunk.answer_chunk.Statement.{statement}
 use Rattle.bench_turn.proofs.chunk.answer_chunk.Tie as tie

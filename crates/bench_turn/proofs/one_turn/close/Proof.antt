@@ -6,7 +6,7 @@ use native.Mathlib.Omega.{arith}
 use borrow.Author.Needs.{needs}
 use Rattle.bench_run.specs.Turn.{Closes}
 use Rattle.bench_run.specs.declared.ending.Ending.{Ending}
-use Rattle.bench_turn.proofs.PlaceLaws.{placed, copied-at}
+use Rattle.bench_turn.proofs.PutLaws.{placed, copied-at}
 use Rattle.bench_turn.proofs.TurnLaws.{closed-silently}
 use Rattle.bench_turn.proofs.one_turn.close.Statement.{statement}
 use Rattle.bench_turn.proofs.one_turn.close.Tie as tie

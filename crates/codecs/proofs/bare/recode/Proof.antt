@@ -4,8 +4,8 @@ use native.Mathlib.Nat.{le-of-eq}
 use borrow.Author.Needs.{needs}
 use lib.Seq.{take-all}
 use Rattle.meaning.specs.Bytes.{writePair}
-use Rattle.interval.specs.Conversions.{outcome}
-use Rattle.end_bytes.specs.Conversions.{orderOf}
+use Rattle.interval.specs.IntervalMeaning.{outcome}
+use Rattle.ends_in_bytes.specs.ByteOrderMeaning.{orderOf}
 use Rattle.meaning.proofs.CalledLaws.{pass, stop, written, refusing}
 use Rattle.request_laws.proofs.ReadLaws.{found₁, after₁, refused₁}
 use Rattle.codecs.proofs.bare.recode.Statement.{statement}

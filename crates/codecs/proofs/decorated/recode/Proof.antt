@@ -3,7 +3,7 @@ use mathlib.Core.Path.{refl}
 use native.Mathlib.Nat.{le-of-eq}
 use borrow.Author.Needs.{needs}
 use lib.Seq.{take-all}
-use Rattle.dec_interval.specs.Conversions.{decOutcome}
+use Rattle.dec_interval.specs.DecIntervalMeaning.{decOutcome}
 use Rattle.meaning.proofs.CalledLaws.{pass, stop, written, refusing}
 use Rattle.request_laws.proofs.ReadLaws.{found₁, after₁, refused₁}
 use Rattle.codecs.proofs.decorated.recode.Statement.{statement}

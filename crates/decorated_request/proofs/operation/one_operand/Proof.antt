@@ -1,7 +1,7 @@
 -- `operation::one_operand` meets its contract: a sound operand is answered, and any other refused.
 use borrow.Author.Needs.{needs}
 use Rattle.meaning.specs.Bytes.{bigEndian, writeDecorated}
-use Rattle.dec_interval.specs.Conversions.{decOutcome}
+use Rattle.dec_interval.specs.DecIntervalMeaning.{decOutcome}
 use Rattle.meaning.proofs.CalledLaws.{written, refusing}
 use Rattle.request_laws.proofs.ReadLaws.{found₁, after₁, refused₁}
 use Rattle.decorated_request.proofs.SoundOperands.{one-sound, write₁}

@@ -2,7 +2,7 @@
 use mathlib.Core.Path.{sym}
 use native.Mathlib.Omega.{arith}
 use borrow.Author.Needs.{needs}
-use Rattle.decorations.specs.Conversions.{decorationOf}
+use Rattle.decorations.specs.DecorationMeaning.{decorationOf}
 use Rattle.decorations.proofs.DecorationLaws.{lower-first, lower-second}
 use Rattle.decorations.proofs.order.lower_decoration.Statement.{statement}
 use Rattle.decorations.proofs.order.lower_decoration.Tie as tie

@@ -2,7 +2,7 @@
 use mathlib.Core.Path.{sym}
 use borrow.Author.Needs.{needs}
 use Rattle.patterns.specs.Format.{binary64}
-use Rattle.flags.proofs.AnswerLaws.{said-yes, said-no}
+use Rattle.truth.proofs.AnswerLaws.{said-yes, said-no}
 use Rattle.end_pairs.proofs.Shapes.{answers-nothing, answers-common}
 use Rattle.decorations.proofs.DecorationLaws.{highest-empty, highest-bounded, highest-unbounded}
 use Rattle.decorations.proofs.settling.highest.Statement.{statement}

@@ -4,8 +4,8 @@ use borrow.Author.Needs.{needs}
 use Rattle.patterns.specs.Format.{binary64}
 use Rattle.meaning.specs.Pairs.{setOf}
 use Rattle.meaning.specs.Decorations.{lowerOf}
-use Rattle.end_pairs.specs.Conversions.{pairOf}
-use Rattle.decorations.specs.Conversions.{decorationOf}
+use Rattle.end_pairs.specs.EndPairMeaning.{pairOf}
+use Rattle.decorations.specs.DecorationMeaning.{decorationOf}
 use Rattle.decorations.proofs.DecorationLaws.{settled-lower}
 use Rattle.decorations.proofs.settling.settled.Statement.{statement}
 use Rattle.decorations.proofs.settling.settled.Tie as tie

@@ -3,7 +3,7 @@ use mathlib.Core.Path.{ap}
 use borrow.Author.Needs.{needs}
 use Rattle.patterns.specs.Format.{binary64}
 use Rattle.meaning.specs.Decorations.{Ill, Trv, Def, Dac, Com}
-use Rattle.decorations.specs.Conversions.{decorationOf}
+use Rattle.decorations.specs.DecorationMeaning.{decorationOf}
 use Rattle.decorations.proofs.AgreeLaws.{answers-agree}
 use Rattle.decorations.proofs.validity.agrees.Statement.{statement}
 use Rattle.decorations.proofs.validity.agrees.Tie as tie

@@ -2,7 +2,7 @@
 use borrow.Author.Tests.{not-true, not-false}
 use borrow.Author.Needs.{needs}
 use Rattle.meaning.specs.Statement.{first₁, right₁, decoratedFive, decoratedSix, decoratedGood}
-use Rattle.flags.proofs.AnswerLaws.{said-yes, said-no}
+use Rattle.truth.proofs.AnswerLaws.{said-yes, said-no}
 use Rattle.decorations.proofs.validity.judge_dec.Statement.{statement}
 use Rattle.decorations.proofs.validity.judge_dec.Tie as tie
 

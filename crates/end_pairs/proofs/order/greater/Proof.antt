@@ -1,7 +1,7 @@
 -- `order::greater` meets its contract: the test orders the two by value.
 use borrow.Author.Needs.{needs}
 use Rattle.meaning.proofs.FractionLaws.{not-le}
-use Rattle.flags.proofs.AnswerLaws.{said-yes, said-no}
+use Rattle.truth.proofs.AnswerLaws.{said-yes, said-no}
 use Rattle.end_pairs.specs.Order.{greaterIsFirst, greaterIsSecond}
 use Rattle.end_pairs.proofs.order.greater.Statement.{statement}
 use Rattle.end_pairs.proofs.order.greater.Tie as tie

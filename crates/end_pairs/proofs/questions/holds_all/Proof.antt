@@ -1,7 +1,7 @@
 -- `questions::holds_all` meets its contract: each end is tested.
 use Rattle.patterns.specs.Format.{binary64, infinity, signBit}
 use Rattle.meaning.specs.Pairs.{minusInfinity}
-use Rattle.flags.proofs.AnswerLaws.{answers-eq}
+use Rattle.truth.proofs.AnswerLaws.{answers-eq}
 use Rattle.end_pairs.proofs.Shapes.{shape, all-when, all-only}
 use Rattle.end_pairs.proofs.questions.holds_all.Statement.{statement}
 use Rattle.end_pairs.proofs.questions.holds_all.Tie as tie

@@ -1,7 +1,7 @@
 -- `questions::is_point` meets its contract: of two finite ends in order, the upper is not above the lower.
 use borrow.Author.Needs.{needs}
 use Rattle.patterns.specs.Format.{binary64}
-use Rattle.flags.proofs.AnswerLaws.{answers-iff, said-yes, no-so}
+use Rattle.truth.proofs.AnswerLaws.{answers-iff, said-yes, no-so}
 use Rattle.end_pairs.proofs.Shapes.{shape, point-when, point-bounded, point-only}
 use Rattle.end_pairs.proofs.questions.is_point.Statement.{statement}
 use Rattle.end_pairs.proofs.questions.is_point.Tie as tie

@@ -1,7 +1,7 @@
 -- `tests::has_ends` meets its contract: the first test settles it, or the second does.
 use mathlib.Core.Logic.{inl}
 use borrow.Author.Needs.{needs}
-use Rattle.flags.proofs.AnswerLaws.{said-no, yes-so, or-else}
+use Rattle.truth.proofs.AnswerLaws.{said-no, yes-so, or-else}
 use Rattle.end_pairs.proofs.tests.has_ends.Statement.{statement}
 use Rattle.end_pairs.proofs.tests.has_ends.Tie as tie
 

@@ -1,6 +1,6 @@
 -- `tests::is_bounded` meets its contract: each end is tested.
 use borrow.Author.Needs.{needs}
-use Rattle.flags.proofs.AnswerLaws.{answers-iff, said-yes, no-so}
+use Rattle.truth.proofs.AnswerLaws.{answers-iff, said-yes, no-so}
 use Rattle.end_pairs.proofs.tests.is_bounded.Statement.{statement}
 use Rattle.end_pairs.proofs.tests.is_bounded.Tie as tie
 

@@ -1,7 +1,7 @@
 -- `tests::is_empty_pair` meets its contract: each end is tested.
 use Rattle.patterns.specs.Format.{infinity, signBit}
 use Rattle.meaning.specs.Pairs.{minusInfinity}
-use Rattle.flags.proofs.AnswerLaws.{answers-eq}
+use Rattle.truth.proofs.AnswerLaws.{answers-eq}
 use Rattle.end_pairs.proofs.tests.is_empty_pair.Statement.{statement}
 use Rattle.end_pairs.proofs.tests.is_empty_pair.Tie as tie
 

@@ -3,7 +3,7 @@ use mathlib.Core.Logic.{inl}
 use borrow.Author.Needs.{needs}
 use Rattle.patterns.specs.Format.{infinity, signBit}
 use Rattle.meaning.specs.Pairs.{minusInfinity}
-use Rattle.flags.proofs.AnswerLaws.{answers-eq, said-no, yes-so, or-else}
+use Rattle.truth.proofs.AnswerLaws.{answers-eq, said-no, yes-so, or-else}
 use Rattle.end_pairs.proofs.tests.is_lower.Statement.{statement}
 use Rattle.end_pairs.proofs.tests.is_lower.Tie as tie
 

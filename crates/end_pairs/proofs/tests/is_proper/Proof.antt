@@ -2,8 +2,8 @@
 use borrow.Author.Tests.{not-true, not-false}
 use borrow.Author.Needs.{needs}
 use Rattle.patterns.specs.Format.{binary64}
-use Rattle.flags.specs.Answers.{denied}
-use Rattle.flags.proofs.AnswerLaws.{said-yes, said-no, no-so}
+use Rattle.truth.specs.Answers.{denied}
+use Rattle.truth.proofs.AnswerLaws.{said-yes, said-no, no-so}
 use Rattle.end_pairs.proofs.TestLaws.{answers-proper}
 use Rattle.end_pairs.proofs.tests.is_proper.Statement.{statement}
 use Rattle.end_pairs.proofs.tests.is_proper.Tie as tie

@@ -2,7 +2,7 @@
 use mathlib.Core.Logic.{inl}
 use borrow.Author.Needs.{needs}
 use Rattle.patterns.specs.Format.{infinity}
-use Rattle.flags.proofs.AnswerLaws.{answers-eq, said-no, yes-so, or-else}
+use Rattle.truth.proofs.AnswerLaws.{answers-eq, said-no, yes-so, or-else}
 use Rattle.end_pairs.proofs.tests.is_upper.Statement.{statement}
 use Rattle.end_pairs.proofs.tests.is_upper.Tie as tie
 

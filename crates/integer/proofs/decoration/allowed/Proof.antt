@@ -4,7 +4,7 @@ use borrow.Author.Needs.{needs}
 use Rattle.patterns.specs.Format.{binary64}
 use Rattle.meaning.specs.Decorations.{ofEmpty, ofMany, ofJump, ofPoint}
 use Rattle.meaning.proofs.PairLaws.{set-empty}
-use Rattle.flags.proofs.AnswerLaws.{said-yes, said-no}
+use Rattle.truth.proofs.AnswerLaws.{said-yes, said-no}
 use Rattle.wholes.specs.Made.{operation}
 use Rattle.integer.proofs.JumpLaws.{allows, operand-proper, result-proper, proper-some}
 use Rattle.integer.proofs.decoration.allowed.Statement.{statement}

@@ -3,7 +3,7 @@ use mathlib.Core.Path.{subst⁻¹}
 use borrow.Author.Needs.{needs}
 use Rattle.patterns.specs.Format.{binary64, infinity, signBit}
 use Rattle.meaning.specs.Pairs.{minusInfinity}
-use Rattle.flags.proofs.AnswerLaws.{said-yes, said-no}
+use Rattle.truth.proofs.AnswerLaws.{said-yes, said-no}
 use Rattle.end_pairs.proofs.EmptyLaws.{not-empty, empty-hull₁}
 use Rattle.end_pairs.proofs.MirrorLaws.{mirror-proper}
 use Rattle.wholes.specs.Made.{operation}

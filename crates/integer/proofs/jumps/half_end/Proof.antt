@@ -2,7 +2,7 @@
 use mathlib.Core.Logic.{inl}
 use borrow.Author.Needs.{needs}
 use Rattle.patterns.specs.Format.{binary64}
-use Rattle.flags.proofs.AnswerLaws.{said-no, yes-so, answers-iff, or-else}
+use Rattle.truth.proofs.AnswerLaws.{said-no, yes-so, answers-iff, or-else}
 use Rattle.integer.proofs.JumpLaws.{half-some, some-half}
 use Rattle.integer.proofs.jumps.half_end.Statement.{statement}
 use Rattle.integer.proofs.jumps.half_end.Tie as tie

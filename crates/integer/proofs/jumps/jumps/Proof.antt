@@ -4,7 +4,7 @@ use mathlib.Core.Path.{_≡_, subst⁻¹}
 use borrow.Author.Needs.{needs}
 use Rattle.meaning.specs.Sets.{Set}
 use Rattle.meaning.specs.Decorations.{DacTest}
-use Rattle.flags.specs.Answers.{Answers}
+use Rattle.truth.specs.Answers.{Answers}
 use Rattle.wholes.specs.Made.{operation}
 use Rattle.wholes.specs.declared.functions.Function.{Function}
 use Rattle.integer.proofs.jumps.jumps.Statement.{statement}

@@ -1,7 +1,7 @@
 -- `jumps::same_either` meets its contract: the lower ends are compared, then the upper ends.
 use mathlib.Core.Logic.{inl}
 use Rattle.patterns.specs.Format.{binary64}
-use Rattle.flags.proofs.AnswerLaws.{said-no, yes-so, or-else}
+use Rattle.truth.proofs.AnswerLaws.{said-no, yes-so, or-else}
 use Rattle.integer.specs.Jumping.{lowers, uppers}
 use Rattle.integer.proofs.JumpLaws.{answers-lowers, answers-uppers}
 use Rattle.integer.proofs.jumps.same_either.Statement.{statement}

@@ -4,7 +4,7 @@ use borrow.Author.Needs.{needs}
 use Rattle.meaning.specs.Statement.{refused, given, right₁}
 use Rattle.meaning.specs.Bytes.{writePair}
 use Rattle.interval.proofs.StatementLaws.{sound₁, refused₁, sound-bare}
-use Rattle.end_bytes.specs.Conversions.{orderOf}
+use Rattle.ends_in_bytes.specs.ByteOrderMeaning.{orderOf}
 use Rattle.interchange.proofs.bare.write.Statement.{statement}
 use Rattle.interchange.proofs.bare.write.Tie as tie
 

@@ -1,7 +1,7 @@
 -- `canonical::has_bytes_ends` meets its contract: the first test settles it, or the second does.
 use borrow.Author.Needs.{needs}
 use Rattle.meaning.specs.Bytes.{canonicalEnds, nanEnds}
-use Rattle.flags.proofs.AnswerLaws.{answers-iff, said-no, yes-so}
+use Rattle.truth.proofs.AnswerLaws.{answers-iff, said-no, yes-so}
 use Rattle.interchange.proofs.ReadLaws.{only-nans}
 use Rattle.interchange.proofs.canonical.has_bytes_ends.Statement.{statement}
 use Rattle.interchange.proofs.canonical.has_bytes_ends.Tie as tie

@@ -1,8 +1,8 @@
 -- `canonical::is_canonical` meets its contract: each zero is tested, and then the interval.
 use borrow.Author.Needs.{needs}
 use Rattle.patterns.specs.Format.{signBit}
-use Rattle.flags.specs.Answers.{denied}
-use Rattle.flags.proofs.AnswerLaws.{answers-iff}
+use Rattle.truth.specs.Answers.{denied}
+use Rattle.truth.proofs.AnswerLaws.{answers-iff}
 use Rattle.interchange.proofs.canonical.is_canonical.Statement.{statement}
 use Rattle.interchange.proofs.canonical.is_canonical.Tie as tie
 

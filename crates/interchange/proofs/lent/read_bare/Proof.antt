@@ -6,8 +6,8 @@ use Rattle.patterns.specs.Format.{binary64}
 use Rattle.meaning.specs.Pairs.{Canonical}
 use Rattle.meaning.specs.Statement.{first₁, right₁}
 use Rattle.meaning.specs.Bytes.{bytesFive, bytesGood}
-use Rattle.flags.proofs.AnswerLaws.{said-yes, said-no}
-use Rattle.end_bytes.specs.Conversions.{orderOf}
+use Rattle.truth.proofs.AnswerLaws.{said-yes, said-no}
+use Rattle.ends_in_bytes.specs.ByteOrderMeaning.{orderOf}
 use Rattle.interchange.proofs.LentLaws.{read-part}
 use Rattle.interchange.proofs.lent.read_bare.Statement.{statement}
 use Rattle.interchange.proofs.lent.read_bare.Tie as tie

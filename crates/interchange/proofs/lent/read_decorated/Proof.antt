@@ -5,7 +5,7 @@ use borrow.Author.Needs.{needs}
 use lib.Dec.{lit≤}
 use Rattle.meaning.specs.Statement.{first₁}
 use Rattle.meaning.specs.Bytes.{bytesFour}
-use Rattle.end_bytes.specs.Conversions.{orderOf}
+use Rattle.ends_in_bytes.specs.ByteOrderMeaning.{orderOf}
 use Rattle.interchange.proofs.LentLaws.{read-part, byte-part}
 use Rattle.interchange.proofs.ReadLaws.{known, unknown, read-known}
 use Rattle.interchange.proofs.lent.read_decorated.Statement.{statement}

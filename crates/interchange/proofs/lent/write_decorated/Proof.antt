@@ -4,9 +4,9 @@ use mathlib.Core.List.{[], _∷_, _++_}
 use Prim.Native.Nat.{ℕ}
 use borrow.Author.Needs.{needs}
 use Rattle.meaning.specs.Bytes.{writePair}
-use Rattle.dec_interval.specs.Conversions.{decPairOf}
-use Rattle.end_bytes.specs.Conversions.{orderOf}
-use Rattle.end_bytes.proofs.PlaceLaws.{length-pair}
+use Rattle.dec_interval.specs.DecIntervalMeaning.{decPairOf}
+use Rattle.ends_in_bytes.specs.ByteOrderMeaning.{orderOf}
+use Rattle.ends_in_bytes.proofs.EightByteLaws.{length-pair}
 use Rattle.interchange.proofs.LentLaws.{last-byte}
 use Rattle.interchange.proofs.lent.write_decorated.Statement.{statement}
 use Rattle.interchange.proofs.lent.write_decorated.Tie as tie

@@ -1,7 +1,7 @@
 -- `reading::read_as` meets its contract: NaI is answered by its constant.
 use borrow.Author.Needs.{needs}
 use Rattle.patterns.specs.Format.{binary64, infinity, quietNaN}
-use Rattle.flags.proofs.AnswerLaws.{said-yes, said-no}
+use Rattle.truth.proofs.AnswerLaws.{said-yes, said-no}
 use Rattle.end_pairs.proofs.KindLaws.{only-bare}
 use Rattle.interchange.specs.Reading.{asNaI}
 use Rattle.interchange.proofs.ReadLaws.{bytes-ends, as-itself}

@@ -1,7 +1,7 @@
 -- `judging::judge` meets its contract: each answer of the test is one judgement.
 use borrow.Author.Needs.{needs}
 use Rattle.meaning.specs.Statement.{first₁, right₁, bareFive, bareGood}
-use Rattle.flags.proofs.AnswerLaws.{said-yes, said-no}
+use Rattle.truth.proofs.AnswerLaws.{said-yes, said-no}
 use Rattle.interval.proofs.judging.judge.Statement.{statement}
 use Rattle.interval.proofs.judging.judge.Tie as tie
 

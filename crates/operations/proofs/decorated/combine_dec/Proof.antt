@@ -1,7 +1,7 @@
 -- `decorated::combine_dec` meets its contract: NaI gives NaI, and intervals the bare answer with its decoration.
 use borrow.Author.Needs.{needs}
 use Rattle.patterns.specs.Format.{binary64, infinity, quietNaN}
-use Rattle.operands.proofs.SortedLaws.{intervals, right-nai, right-interval}
+use Rattle.operation_steps.proofs.SortedLaws.{intervals, right-nai, right-interval}
 use Rattle.operations.proofs.decorated.combine_dec.Statement.{statement}
 use Rattle.operations.proofs.decorated.combine_dec.Tie as tie
 

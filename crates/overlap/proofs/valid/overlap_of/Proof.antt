@@ -1,9 +1,9 @@
 -- `valid::overlap_of` meets its contract: EMPTY is told first, and the keys of the ends are ordered as the ends are.
 use borrow.Author.Needs.{needs}
 use Rattle.patterns.specs.Format.{binary64}
-use Rattle.flags.proofs.AnswerLaws.{said-yes, said-no}
+use Rattle.truth.proofs.AnswerLaws.{said-yes, said-no}
 use Rattle.end_pairs.proofs.EmptyLaws.{not-empty}
-use Rattle.overlap.specs.Conversions.{stateOf}
+use Rattle.overlap.specs.OverlapMeaning.{stateOf}
 use Rattle.overlap.proofs.EndKeys.{both-empty, first-empty, second-empty, neither-empty}
 use Rattle.overlap.proofs.valid.overlap_of.Statement.{statement}
 use Rattle.overlap.proofs.valid.overlap_of.Tie as tie

@@ -2,8 +2,8 @@
 use mathlib.Core.Path.{refl}
 use borrow.Author.Needs.{needs}
 use Rattle.meaning.specs.Overlap.{naiState, intervalState}
-use Rattle.operands.proofs.SortedLaws.{nai, intervals}
-use Rattle.overlap.specs.Conversions.{stateOf}
+use Rattle.operation_steps.proofs.SortedLaws.{nai, intervals}
+use Rattle.overlap.specs.OverlapMeaning.{stateOf}
 use Rattle.overlap.proofs.valid.overlap_of_dec.Statement.{statement}
 use Rattle.overlap.proofs.valid.overlap_of_dec.Tie as tie
 

@@ -1,7 +1,7 @@
 -- `packing::magnitude::normalised` meets its contract: nothing lacks, or the whole exponent is spent, or the significand is raised.
 use borrow.Author.Needs.{needs}
 use native.Mathlib.Omega.{arith}
-use Rattle.flags.proofs.AnswerLaws.{said-yes, said-no}
+use Rattle.truth.proofs.AnswerLaws.{said-yes, said-no}
 use Rattle.packing.proofs.NormalLaws.{already, exponent-low, spent}
 use Rattle.packing.proofs.WordLaws.{one-shifts}
 use Rattle.packing.proofs.magnitude.normalised.Statement.{statement}

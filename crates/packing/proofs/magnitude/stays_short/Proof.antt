@@ -5,8 +5,8 @@ use Prim.Native.Nat.{ℕ, _-_, _*_, _^_, _<_}
 use native.Mathlib.Nat.{lt-irrefl, lt-of-lt-of-le}
 use native.Mathlib.Omega.{arith}
 use lib.Dec.{ltb}
-use Rattle.flags.specs.Answers.{Answers, denied}
-use Rattle.flags.proofs.AnswerLaws.{answers-lt}
+use Rattle.truth.specs.Answers.{Answers, denied}
+use Rattle.truth.proofs.AnswerLaws.{answers-lt}
 use Rattle.packing.proofs.NormalLaws.{worth-enough, worth-little}
 use Rattle.packing.proofs.WordLaws.{one-shifts}
 use Rattle.packing.proofs.magnitude.stays_short.Statement.{statement}

@@ -7,7 +7,7 @@ use native.Mathlib.Omega.{arith}
 use lib.ListN.{length}
 use Rattle.rounding_runs.specs.Cases.{Counted, none, RightCase, WrongCase}
 use Rattle.rounding_runs.proofs.Counting.{counted-within, counts, passes}
-use Rattle.flags.proofs.AnswerLaws.{said-yes, said-no}
+use Rattle.truth.proofs.AnswerLaws.{said-yes, said-no}
 use Rattle.rounding_runs.proofs.cases.count.Statement.{statement}
 use Rattle.rounding_runs.proofs.cases.count.Tie as tie
 

@@ -6,7 +6,7 @@ use Prim.Native.Nat.{ℕ, _-_, _*_, _/_, _<_, _≤_}
 use native.Mathlib.Omega.{arith}
 use lib.ListN.{length}
 use Rattle.rounding_runs.specs.Cases.{SomeRightCase}
-use Rattle.flags.proofs.AnswerLaws.{said-yes, said-no}
+use Rattle.truth.proofs.AnswerLaws.{said-yes, said-no}
 use Rattle.rounding_runs.proofs.cases.first_wrong.Statement.{statement}
 use Rattle.rounding_runs.proofs.cases.first_wrong.Tie as tie
 

@@ -3,8 +3,8 @@ use borrow.Author.Needs.{needs}
 use Rattle.rounding_runs.specs.Cases.{RightCase}
 use Rattle.rounding_runs.specs.declared.roundings.Operation.{Operation}
 use Rattle.rounding_runs.specs.declared.roundings.Operation.the-variants.{Sum, Product, Quotient}
-use Rattle.flags.specs.Answers.{affirmed}
-use Rattle.flags.proofs.AnswerLaws.{answers-iff, said-yes, said-no}
+use Rattle.truth.specs.Answers.{affirmed}
+use Rattle.truth.proofs.AnswerLaws.{answers-iff, said-yes, said-no}
 use Rattle.rounding_runs.proofs.OperationCases.{by-operation}
 use Rattle.rounding_runs.proofs.cases.is_right.Statement.{statement}
 use Rattle.rounding_runs.proofs.cases.is_right.Tie as tie

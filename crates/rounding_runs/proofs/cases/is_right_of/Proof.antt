@@ -1,8 +1,8 @@
 -- `rounding_runs::cases::is_right_of` meets its contract: the number is the operation's, and what the case says is right.
 use borrow.Author.Needs.{needs}
 use mathlib.Core.Path.{sym, _∙_}
-use Rattle.flags.specs.Answers.{denied}
-use Rattle.flags.proofs.AnswerLaws.{answers-iff}
+use Rattle.truth.specs.Answers.{denied}
+use Rattle.truth.proofs.AnswerLaws.{answers-iff}
 use Rattle.rounding_runs.proofs.cases.is_right_of.Statement.{statement}
 use Rattle.rounding_runs.proofs.cases.is_right_of.Tie as tie
 

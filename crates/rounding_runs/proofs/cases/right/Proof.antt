@@ -4,8 +4,8 @@ use mathlib.Core.Path.{subst}
 use Rattle.patterns.specs.Format.{binary64}
 use Rattle.patterns.specs.Rounding.{Up}
 use Rattle.patterns.proofs.UpLaws.{up-unique}
-use Rattle.flags.specs.Answers.{denied}
-use Rattle.flags.proofs.AnswerLaws.{answers-eq, said-yes, said-no}
+use Rattle.truth.specs.Answers.{denied}
+use Rattle.truth.proofs.AnswerLaws.{answers-eq, said-yes, said-no}
 use Rattle.rounding_runs.proofs.cases.right.Statement.{statement}
 use Rattle.rounding_runs.proofs.cases.right.Tie as tie
 

@@ -1,8 +1,8 @@
 -- `rounding_runs::roundings::takes` meets its contract: it answers the questions of its parts in turn.
 use borrow.Author.Needs.{needs}
 use borrow.Author.Tests.{not-false, not-true}
-use Rattle.flags.specs.Answers.{denied}
-use Rattle.flags.proofs.AnswerLaws.{answers-iff, said-yes, said-no}
+use Rattle.truth.specs.Answers.{denied}
+use Rattle.truth.proofs.AnswerLaws.{answers-iff, said-yes, said-no}
 use Rattle.rounding_runs.proofs.roundings.takes.Statement.{statement}
 use Rattle.rounding_runs.proofs.roundings.takes.Tie as tie
 

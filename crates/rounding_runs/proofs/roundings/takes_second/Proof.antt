@@ -4,8 +4,8 @@ use mathlib.Core.Path.{ap, sym, _∙_}
 use Rattle.patterns.specs.Format.{signBit}
 use Rattle.patterns.specs.Value.{magnitude, value}
 use Rattle.patterns.proofs.ValueLaws.{value-zero, value-injective}
-use Rattle.flags.specs.Answers.{affirmed}
-use Rattle.flags.proofs.AnswerLaws.{answers-eq, answers-not}
+use Rattle.truth.specs.Answers.{affirmed}
+use Rattle.truth.proofs.AnswerLaws.{answers-eq, answers-not}
 use Rattle.rounding_runs.proofs.roundings.takes_second.Statement.{statement}
 use Rattle.rounding_runs.proofs.roundings.takes_second.Tie as tie
 

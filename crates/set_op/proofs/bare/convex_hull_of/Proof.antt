@@ -1,7 +1,7 @@
 -- `bare::convex_hull_of` meets its contract: EMPTY adds nothing to the other operand.
 use borrow.Author.Needs.{needs}
 use Rattle.patterns.specs.Format.{binary64}
-use Rattle.flags.proofs.AnswerLaws.{said-yes, said-no}
+use Rattle.truth.proofs.AnswerLaws.{said-yes, said-no}
 use Rattle.end_pairs.proofs.EmptyLaws.{not-empty}
 use Rattle.set_op.proofs.SetOperations.{hull-first, hull-second}
 use Rattle.set_op.proofs.bare.convex_hull_of.Statement.{statement}

@@ -2,7 +2,7 @@
 use borrow.Author.Needs.{needs}
 use Rattle.patterns.specs.Format.{binary64, infinity, signBit}
 use Rattle.meaning.specs.Pairs.{minusInfinity}
-use Rattle.flags.proofs.AnswerLaws.{said-yes, said-no}
+use Rattle.truth.proofs.AnswerLaws.{said-yes, said-no}
 use Rattle.end_pairs.proofs.EmptyLaws.{neither-empty}
 use Rattle.set_op.proofs.SetOperations.{intersection-empty}
 use Rattle.set_op.proofs.bare.intersection_of.Statement.{statement}

@@ -4,7 +4,7 @@ use borrow.Author.Needs.{needs}
 use Rattle.patterns.specs.Format.{binary64, infinity, signBit}
 use Rattle.meaning.specs.Pairs.{minusInfinity}
 use Rattle.meaning.proofs.PatternHull.{hull-of-none}
-use Rattle.flags.proofs.AnswerLaws.{said-yes, said-no}
+use Rattle.truth.proofs.AnswerLaws.{said-yes, said-no}
 use Rattle.set_op.proofs.TrueEnds.{span-of, exact-proper, exact-answer}
 use Rattle.set_op.proofs.SetOperations.{intersection-exact, intersection-none}
 use Rattle.set_op.proofs.bare.intersection_of_spans.Statement.{statement}

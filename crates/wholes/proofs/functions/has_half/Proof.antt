@@ -2,9 +2,9 @@
 use borrow.Author.Needs.{needs}
 use Rattle.patterns.specs.Format.{binary64, signBit}
 use Rattle.patterns.specs.Value.{magnitude}
-use Rattle.flags.specs.Answers.{denied}
+use Rattle.truth.specs.Answers.{denied}
 use Rattle.wholes.proofs.PickLaws.{whole-no-half}
-use Rattle.wholes.proofs.PartLaws.{part-whole, part-between, half-low, half-middle, half-high}
+use Rattle.wholes.proofs.MagnitudeLaws.{part-whole, part-between, half-low, half-middle, half-high}
 use Rattle.wholes.proofs.SignedLaws.{half-magnitude}
 use Rattle.wholes.proofs.functions.has_half.Statement.{statement}
 use Rattle.wholes.proofs.functions.has_half.Tie as tie

@@ -2,7 +2,7 @@
 use borrow.Author.Needs.{needs}
 use Rattle.patterns.specs.Format.{binary64}
 use Rattle.points.specs.Functions.{keepsFloor}
-use Rattle.wholes.proofs.PartLaws.{part-whole, part-between, made-whole, floor-made}
+use Rattle.wholes.proofs.MagnitudeLaws.{part-whole, part-between, made-whole, floor-made}
 use Rattle.wholes.proofs.magnitudes.downward.Statement.{statement}
 use Rattle.wholes.proofs.magnitudes.downward.Tie as tie
 

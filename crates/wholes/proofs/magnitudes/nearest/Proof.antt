@@ -2,7 +2,7 @@
 use borrow.Author.Needs.{needs}
 use Rattle.patterns.specs.Format.{binary64}
 use Rattle.points.specs.Functions.{keepsRound}
-use Rattle.wholes.proofs.PartLaws.{part-whole, part-between, made-whole, round-low, round-middle, round-high}
+use Rattle.wholes.proofs.MagnitudeLaws.{part-whole, part-between, made-whole, round-low, round-middle, round-high}
 use Rattle.wholes.proofs.magnitudes.nearest.Statement.{statement}
 use Rattle.wholes.proofs.magnitudes.nearest.Tie as tie
 

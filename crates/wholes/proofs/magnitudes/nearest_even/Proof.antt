@@ -2,7 +2,7 @@
 use borrow.Author.Needs.{needs}
 use Rattle.patterns.specs.Format.{binary64}
 use Rattle.points.specs.Functions.{keepsEven}
-use Rattle.wholes.proofs.PartLaws.{part-whole, part-between, made-whole, even-low, even-middle, odd-middle, even-high}
+use Rattle.wholes.proofs.MagnitudeLaws.{part-whole, part-between, made-whole, even-low, even-middle, odd-middle, even-high}
 use Rattle.wholes.proofs.magnitudes.nearest_even.Statement.{statement}
 use Rattle.wholes.proofs.magnitudes.nearest_even.Tie as tie
 

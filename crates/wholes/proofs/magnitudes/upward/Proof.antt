@@ -2,7 +2,7 @@
 use borrow.Author.Needs.{needs}
 use Rattle.patterns.specs.Format.{binary64}
 use Rattle.points.specs.Functions.{keepsCeil}
-use Rattle.wholes.proofs.PartLaws.{part-whole, part-between, made-whole, ceil-made}
+use Rattle.wholes.proofs.MagnitudeLaws.{part-whole, part-between, made-whole, ceil-made}
 use Rattle.wholes.proofs.magnitudes.upward.Statement.{statement}
 use Rattle.wholes.proofs.magnitudes.upward.Tie as tie
 

@@ -1,7 +1,7 @@
 -- `DecInterval::inf` meets its contract: the interval part is asked, NaI is answered by itself, and a refusal is handed on.
 use borrow.Author.Needs.{needs}
 use Rattle.patterns.specs.Format.{binary64, infinity, quietNaN}
-use Rattle.dec_interval.proofs.PartLaws.{part-lower, nai-end, part-refused}
+use Rattle.dec_interval.proofs.IntervalPartLaws.{part-lower, nai-end, part-refused}
 use Rattle.dec_interval.proofs.types.DecInterval.inf.Statement.{statement}
 use Rattle.dec_interval.proofs.types.DecInterval.inf.Tie as tie
 

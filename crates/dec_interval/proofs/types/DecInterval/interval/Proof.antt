@@ -5,7 +5,7 @@ use Rattle.patterns.specs.Format.{binary64}
 use Rattle.meaning.specs.Statement.{JudgedDecorated, right₁}
 use Rattle.meaning.specs.Bytes.{Tidied}
 use Rattle.dec_interval.specs.Values.{isPart, isMissing}
-use Rattle.flags.proofs.AnswerLaws.{said-yes, said-no}
+use Rattle.truth.proofs.AnswerLaws.{said-yes, said-no}
 use Rattle.end_pairs.proofs.KindLaws.{only-bare}
 use Rattle.interval.proofs.StatementLaws.{sound₁, refused₁}
 use Rattle.decorations.proofs.AgreeLaws.{sound-ends}

@@ -2,7 +2,7 @@
 use borrow.Author.Needs.{needs}
 use Rattle.patterns.specs.Format.{binary64}
 use Rattle.meaning.specs.Decorations.{Common}
-use Rattle.dec_interval.proofs.PartLaws.{part-asked, nai-asked, part-refused}
+use Rattle.dec_interval.proofs.IntervalPartLaws.{part-asked, nai-asked, part-refused}
 use Rattle.dec_interval.proofs.types.DecInterval.is_common_interval.Statement.{statement}
 use Rattle.dec_interval.proofs.types.DecInterval.is_common_interval.Tie as tie
 

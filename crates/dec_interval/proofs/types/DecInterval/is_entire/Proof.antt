@@ -3,7 +3,7 @@ use mathlib.Core.Path.{_≡_}
 use borrow.Author.Needs.{needs}
 use Rattle.patterns.specs.Format.{binary64}
 use Rattle.meaning.specs.Sets.{Set, span, unbounded}
-use Rattle.dec_interval.proofs.PartLaws.{part-asked, nai-asked, part-refused}
+use Rattle.dec_interval.proofs.IntervalPartLaws.{part-asked, nai-asked, part-refused}
 use Rattle.dec_interval.proofs.types.DecInterval.is_entire.Statement.{statement}
 use Rattle.dec_interval.proofs.types.DecInterval.is_entire.Tie as tie
 

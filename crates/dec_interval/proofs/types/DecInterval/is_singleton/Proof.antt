@@ -2,7 +2,7 @@
 use borrow.Author.Needs.{needs}
 use Rattle.patterns.specs.Format.{binary64}
 use Rattle.meaning.specs.Decorations.{Point}
-use Rattle.dec_interval.proofs.PartLaws.{part-asked, nai-asked, part-refused}
+use Rattle.dec_interval.proofs.IntervalPartLaws.{part-asked, nai-asked, part-refused}
 use Rattle.dec_interval.proofs.types.DecInterval.is_singleton.Statement.{statement}
 use Rattle.dec_interval.proofs.types.DecInterval.is_singleton.Tie as tie
 

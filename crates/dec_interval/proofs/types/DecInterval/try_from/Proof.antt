@@ -1,7 +1,7 @@
 -- `DecInterval::try_from` meets its contract: the interval that is made is decorated, and a refusal is handed on.
 use borrow.Author.Needs.{needs}
 use Rattle.patterns.specs.Format.{binary64}
-use Rattle.dec_interval.proofs.PartLaws.{made-decorated, made-refused}
+use Rattle.dec_interval.proofs.IntervalPartLaws.{made-decorated, made-refused}
 use Rattle.dec_interval.proofs.types.DecInterval.try_from.Statement.{statement}
 use Rattle.dec_interval.proofs.types.DecInterval.try_from.Tie as tie
 

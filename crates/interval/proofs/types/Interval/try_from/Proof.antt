@@ -5,7 +5,7 @@ use borrow.Author.Needs.{needs}
 use Rattle.patterns.specs.Format.{binary64}
 use Rattle.meaning.specs.Statement.{first₁, right₁, bareFive, bareGood}
 use Rattle.meaning.specs.Bytes.{Tidied}
-use Rattle.flags.proofs.AnswerLaws.{said-yes, said-no}
+use Rattle.truth.proofs.AnswerLaws.{said-yes, said-no}
 use Rattle.interval.proofs.types.Interval.try_from.Statement.{statement}
 use Rattle.interval.proofs.types.Interval.try_from.Tie as tie
 

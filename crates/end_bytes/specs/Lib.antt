@@ -1,2 +1,0 @@
--- What the contracts of end bytes cite.
-pub mod Conversions

@@ -1,0 +1,4 @@
+-- Laws of the bytes of ends.
+pub mod Spelled
+pub mod EightByteLaws
+pub mod DigitLaws

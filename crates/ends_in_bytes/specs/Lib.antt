@@ -1,0 +1,2 @@
+-- What the contracts of end bytes cite.
+pub mod ByteOrderMeaning
