@@ -97,7 +97,7 @@ def make(program, kind, requests, situation, size=0, piece=b''):
 
 def main():
     requests = list(request_lists.Generator('decorated', SEED).requests(DRAWN))
-    make('bench', 'decorated', requests, request_situation, SIZE)
+    make('bench_program', 'decorated', requests, request_situation, SIZE)
     records = list(record_lists.Generator(SEED).records(DRAWN))
     make('value_run', 'values', records, record_situation, piece=records[0][:-1])
 

@@ -4,7 +4,7 @@ import subprocess
 import time
 import tty
 
-BENCH = ['tests/x86', 'target/bin/bench']
+BENCH = ['tests/x86', 'target/bin/bench_program']
 # Far longer than any run takes, so that a program which waits for more is found out.
 PATIENCE = 20
 # How long a program has to take what was sent before the other side hangs up.

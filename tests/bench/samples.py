@@ -67,5 +67,5 @@ def accepted():
 
 def fixed():
     """The fixed list: its requests and their replies."""
-    bench = ROOT / 'crates' / 'bench'
+    bench = ROOT / 'crates' / 'bench_program'
     return (bench / 'stdin').read_bytes(), (bench / 'stdout').read_bytes()

@@ -1,5 +1,5 @@
-// Upper ends of sums, products and quotients, rounded upward, and what a divisor says of a quotient.
-// A lower end is the upper end of the mirror image, negated.
+// Upper ends of sums, products and quotients, rounded upward, and what a divisor says of a quotient; a lower end is the upper end
+// of the mirror image, negated. It stands on the three roundings and on the corners that a table chooses.
 mod divisor;
 mod ends;
 mod product;

@@ -1,4 +1,5 @@
-// Bare requests: 33 bytes, answered by 16.
+// Bare requests: 33 bytes, answered by 16. They stand on intervals in lent bytes (`interchange`) and on the operations by number
+// (`operations`).
 ghost use mathlib.Core.Path.{_≡_};
 ghost use mathlib.Core.List.{[], _∷_};
 ghost use lib.ListN.{length};
@@ -9,17 +10,15 @@ ghost use Rattle.meaning.specs.Calls.{Called};
 
 mod operation;
 
-use lent_calls::BARE_REQUEST;
 use interchange::BARE;
+use lent_calls::BARE_REQUEST;
+use lent_calls::NUMBER_AT;
 use operation::one_operand;
 use operation::overlap_state;
 use operation::two_operands;
 use operations::Asked;
 use operations::numbered;
 use refusals::Refusal;
-
-// Where the operation number stands.
-const NUMBER_AT: usize = 0;
 
 // Does what the number asks for. One-operand operations do not read the second operand.
 fn answer(input: &[u8], output: &mut [u8]) -> Refusal

@@ -10,13 +10,14 @@ ghost use Rattle.meaning.specs.Statement.{Answered₂};
 ghost use Rattle.operations.specs.Names.{unaryOf, binaryOf};
 ghost use Rattle.request_laws.specs.Reads.{OnOperands, BothRead};
 ghost use Rattle.bare_request.specs.OperandMeaning.{bothOf, ReadPair};
-use lent_calls::write_state;
 use ends_in_bytes::ByteOrder;
 use interchange::BARE;
 use interchange::read_bare;
 use interchange::write_bare;
 use interval::Answer;
 use interval::Interval;
+use lent_calls::FIRST_AT;
+use lent_calls::write_state;
 use operations::Binary;
 use operations::Unary;
 use operations::combine;
@@ -26,9 +27,7 @@ use overlap::state_number;
 use refusals::Refusal;
 use refusals::SECOND;
 
-// Where the operands start.
-const FIRST_AT: usize = 1;
-
+// Where the second operand starts.
 const SECOND_AT: usize = FIRST_AT + BARE;
 
 // Two operands, or the refusal of the first that is wrong.

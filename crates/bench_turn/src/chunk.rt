@@ -1,19 +1,13 @@
 // Chunks of decorated requests, which lie one behind the other: nineteen bytes for each.
 ghost use Rattle.request_laws.specs.Chunk.{Chunk, Replied};
 ghost use Rattle.bench_turn.specs.Room.{Roomy};
-use lent_calls::DECORATED_REQUEST;
-use lent_calls::REPLY;
 use decorated_request::request_decorated;
 use interchange::DECORATED;
-
-// Where the number stands in a reply.
-const NUMBER_AT: usize = 0;
-
-// Where the place stands.
-const PLACE_AT: usize = 1;
-
-// Where the answer starts.
-const ANSWER_AT: usize = 2;
+use lent_calls::ANSWER_AT;
+use lent_calls::DECORATED_REQUEST;
+use lent_calls::NUMBER_AT;
+use lent_calls::PLACE_AT;
+use lent_calls::REPLY;
 
 // The reply to one request, or to bytes that are none.
 fn reply(request: &[u8]) -> [u8; REPLY]

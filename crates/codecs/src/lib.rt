@@ -1,4 +1,5 @@
-// Codecs on lent bytes: one interval from one byte order into the other.
+// Codecs on lent bytes: one interval from one byte order into the other. They stand on what reads and writes intervals in lent
+// bytes (`interchange`).
 mod bare;
 mod decorated;
 

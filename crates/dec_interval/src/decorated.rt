@@ -13,7 +13,7 @@ use crate::answers::DecAnswer;
 use crate::answers::DecorationAnswer;
 use crate::answers::PartAnswer;
 use crate::made::canonical_dec;
-use crate::made::settle;
+use crate::made::with_decoration;
 use crate::types::DecInterval;
 use decorations::Decoration;
 use decorations::judge_dec;
@@ -72,7 +72,7 @@ impl DecInterval {
         ensures { λ r. ⌜ Answered₁ (JudgedBare binary64) (SetDec binary64 (decorationOf d)) (pairOf x) (decOutcome r) ⌝ }
     {
         match judge(x) {
-            Verdict::Sound => DecAnswer::Given(settle(x, d)),
+            Verdict::Sound => DecAnswer::Given(with_decoration(x, d)),
             Verdict::Refused(refusal) => DecAnswer::Refused(refusal),
         }
     }

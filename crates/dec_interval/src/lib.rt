@@ -1,4 +1,5 @@
-// Decorated intervals by value, under inari's names: made from their parts, taken apart, and asked about.
+// Decorated intervals by value, under inari's names: made from their parts, taken apart, and asked about. They stand on bare
+// intervals (`interval`) and on what goes with two ends (`decorations`).
 mod answers;
 mod decorated;
 mod made;

@@ -32,7 +32,7 @@ pub fn canonical_dec(ends: EndPair, d: Decoration) -> DecInterval
 }
 
 // The interval with the decoration that `set_dec` gives to it, or NaI.
-pub fn settle(x: Interval, d: Decoration) -> DecInterval
+pub fn with_decoration(x: Interval, d: Decoration) -> DecInterval
     requires { ⌜ Bare binary64 (interval.pairOf x) ⌝ }
     ensures { λ r. ⌜ SetDec binary64 (decorationOf d) (interval.pairOf x) (decPairOf r) ⌝ }
 {

@@ -10,13 +10,14 @@ ghost use Rattle.meaning.specs.Statement.{Answered₂};
 ghost use Rattle.operations.specs.Names.{unaryOf, binaryOf};
 ghost use Rattle.request_laws.specs.Reads.{OnOperands, BothRead};
 ghost use Rattle.decorated_request.specs.DecOperandMeaning.{bothOf};
-use lent_calls::write_state;
 use dec_interval::DecAnswer;
 use dec_interval::DecInterval;
 use ends_in_bytes::ByteOrder;
 use interchange::DECORATED;
 use interchange::read_decorated;
 use interchange::write_decorated;
+use lent_calls::FIRST_AT;
+use lent_calls::write_state;
 use operations::Binary;
 use operations::Unary;
 use operations::combine_dec;
@@ -26,9 +27,7 @@ use overlap::overlap_of_dec;
 use refusals::Refusal;
 use refusals::SECOND;
 
-// Where the operands start.
-const FIRST_AT: usize = 1;
-
+// Where the second operand starts.
 const SECOND_AT: usize = FIRST_AT + DECORATED;
 
 // Two operands, or the refusal of the first that is wrong.

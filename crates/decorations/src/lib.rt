@@ -1,4 +1,5 @@
-// Decorations: their order, which of them go with two ends, and which one `set_dec` gives to them.
+// Decorations: their order, which of them go with two ends, and which one `set_dec` gives to them. They stand on tests of two
+// ends (`end_pairs`) and on what a call answers (`interval`).
 mod order;
 mod settling;
 mod types;

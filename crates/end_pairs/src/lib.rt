@@ -1,4 +1,5 @@
 // Two ends by value, before and after they are judged: their order, which of them are an interval's, and their zeros and signs.
+// It stands on definitions alone, and every interval stands on it.
 mod mirror;
 mod order;
 mod questions;

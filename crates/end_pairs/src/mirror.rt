@@ -17,13 +17,13 @@ pub fn opposite(b: u64) -> u64
     b - SIGN
 }
 
-// The pair with the upper end `hi` whose mirror image has the upper end `lo`.
-pub fn outward(lo: u64, hi: u64) -> EndPair
-    ensures { λ r. ⌜ pairOf r ≡ outwardPair binary64 lo hi ⌝ }
+// The pair with an upper end, whose mirror image has the upper end `mirrored`.
+pub fn outward(mirrored: u64, upper: u64) -> EndPair
+    ensures { λ r. ⌜ pairOf r ≡ outwardPair binary64 mirrored upper ⌝ }
 {
     EndPair {
-        a: opposite(lo),
-        b: hi,
+        a: opposite(mirrored),
+        b: upper,
     }
 }
 

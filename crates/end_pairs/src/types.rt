@@ -1,9 +1,9 @@
 // Two ends, and the bit patterns that have a name.
 
+pub use patterns::SIGN;
+
 // The pattern of +0.0.
 pub const PLUS_ZERO: u64 = 0;
-// The pattern of the sign bit, which is also that of -0.0.
-pub const SIGN: u64 = 0x8000_0000_0000_0000;
 // The pattern of +inf.
 pub const INFINITY: u64 = 0x7ff0_0000_0000_0000;
 // The pattern of -inf.

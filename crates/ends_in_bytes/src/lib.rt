@@ -1,4 +1,4 @@
-// The bytes of two ends in either byte order.
+// The bytes of two ends in either byte order, in lent bytes. It stands on two ends by value (`end_pairs`) and knows no interval.
 mod digits;
 mod ends;
 

@@ -1,4 +1,5 @@
-// The calls for a host in C. Each reads one slice, writes the other, and returns the number plus 256 times the place.
+// The calls for a host in C. Each reads one slice, writes the other, and returns the number plus 256 times the place; they stand on
+// the requests and the codecs.
 ghost use Rattle.patterns.specs.Format.{binary64};
 ghost use Rattle.meaning.specs.Bytes.{bigEndian, littleEndian};
 ghost use Rattle.meaning.specs.Requests.{BareRequest, DecoratedRequest, BareCodec, DecoratedCodec};

@@ -1,4 +1,5 @@
-// The functions whose results are whole numbers, on bare intervals, by their ends, which were judged already.
+// The functions whose results are whole numbers, on bare intervals, by their ends, which were judged already. They stand on
+// the same functions of one pattern (`wholes`).
 mod decoration;
 mod ends;
 mod image;

@@ -9,8 +9,8 @@ ghost use Rattle.interchange.specs.Written.{AnsweredBy, WrittenBare, byt
 use crate::lent::BARE;
 use crate::lent::read_bare;
 use crate::lent::write_bare;
-use ends_in_bytes::ByteOrder;
 use end_pairs::canonical;
+use ends_in_bytes::ByteOrder;
 use interval::Answer;
 use interval::Interval;
 use interval::Verdict;

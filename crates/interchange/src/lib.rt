@@ -1,4 +1,5 @@
-// Interchange bytes of intervals, big and little endian: as arrays by value, and lent.
+// Interchange bytes of intervals, big and little endian: as arrays by value, and lent. They stand on the bytes of two ends
+// (`ends_in_bytes`) and on intervals by value, and judge what they read.
 pub mod bare;
 mod canonical;
 pub mod decorated;

@@ -1,4 +1,5 @@
-// Any operation by name on any values: operands are judged first, the first before the second.
+// Any operation by name on any values: operands are judged first, the first before the second. It stands on the operations by
+// name on operands that were judged (`operations`).
 ghost use Rattle.patterns.specs.Format.{binary64};
 ghost use Rattle.meaning.specs.Statement.{Bare₁, Bare₂, Decorated₁, Decorated₂};
 ghost use Rattle.interval.specs.IntervalMeaning.{pairOf, outcome};

@@ -1,4 +1,5 @@
-// What the class of one operand says of a product or a quotient, before the tables are asked.
+// What the class of one operand says of a product or a quotient, before the tables are asked. It stands on classes
+// (`classify`) and on the kinds that theorem 3 speaks of.
 mod divisor;
 mod kind;
 

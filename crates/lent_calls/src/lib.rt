@@ -1,4 +1,5 @@
-// What calls on lent bytes share: how long their bytes are, how a state is written, and a refusal packed.
+// What calls on lent bytes share: how long their bytes are, how a state is written, and a refusal packed. It stands on the sizes of
+// intervals (`interchange`).
 mod number;
 mod state;
 
@@ -13,5 +14,16 @@ pub const BARE_REQUEST: usize = 1 + 2 * BARE;
 // The bytes of a decorated request.
 pub const DECORATED_REQUEST: usize = 1 + 2 * DECORATED;
 
-// The bytes of the bench program's reply to it: number, place, answer.
-pub const REPLY: usize = 2 + DECORATED;
+// Where the number stands, of the operation in a request and of the refusal in a reply.
+pub const NUMBER_AT: usize = 0;
+
+// Where the first operand of a request starts.
+pub const FIRST_AT: usize = 1;
+
+// Where the place stands in a reply of the bench program, and where the answer starts.
+pub const PLACE_AT: usize = 1;
+
+pub const ANSWER_AT: usize = 2;
+
+// The bytes of the reply.
+pub const REPLY: usize = ANSWER_AT + DECORATED;

@@ -8,3 +8,5 @@ pub mod PatternHull
 pub mod Unique
 pub mod CalledLaws
 pub mod OperationNumbers
+pub mod Differences
+pub mod Faithful

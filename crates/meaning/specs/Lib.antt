@@ -13,3 +13,4 @@ pub mod Overlap
 pub mod Bytes
 pub mod Calls
 pub mod Requests
+pub mod Signed

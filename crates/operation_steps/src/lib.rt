@@ -1,4 +1,5 @@
-// What operations share: operands that are wrong are refused, NaI is found, and answers are decorated.
+// What operations share: operands that are wrong are refused, NaI is found, and answers are decorated. It stands on intervals
+// by value, and every operation stands on it.
 mod answer;
 mod judging;
 mod sound;

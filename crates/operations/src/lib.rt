@@ -1,4 +1,5 @@
-// The operations by name, on intervals that were judged already, bare and decorated.
+// The operations by name, on intervals that were judged already, bare and decorated. They stand on the operations by their ends
+// (`arith`, `set_op`, `absmax`, `integer`) and on the steps that all share (`operation_steps`).
 mod bare;
 mod decorated;
 mod names;

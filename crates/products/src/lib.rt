@@ -1,4 +1,4 @@
-// Upward rounding of products of doubles.
+// Upward rounding of products of doubles. It stands on significands of full length (`significands`) and on packing.
 ghost use Rattle.patterns.specs.Format.{binary64};
 ghost use Rattle.patterns.specs.Rounding.{Up, productOf};
 ghost use Rattle.patterns.specs.Value.{Finite};

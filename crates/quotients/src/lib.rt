@@ -1,4 +1,4 @@
-// Upward rounding of quotients of doubles.
+// Upward rounding of quotients of doubles. It stands on significands of full length (`significands`) and on packing.
 ghost use mathlib.Core.Path.{_≡_};
 ghost use Rattle.patterns.specs.Format.{binary64};
 ghost use Rattle.patterns.specs.Rounding.{Up, quotientOf};

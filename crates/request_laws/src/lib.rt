@@ -1,1 +1,2 @@
-// Laws of requests and codecs: one outcome for each call, and the wrong versions that their statements refuse. There is no code here.
+// Laws of requests and codecs: one outcome for each call, and the wrong versions that their statements refuse. There is no code
+// here, and it stands on definitions, on `uniqueness` and on the table of `cases`.

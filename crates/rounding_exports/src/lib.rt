@@ -3,21 +3,10 @@ ghost use mathlib.Core.Path.{_≡_};
 ghost use lib.ListN.{length};
 ghost use Rattle.truth.specs.Answers.{Answers};
 ghost use Rattle.rounding_exports.specs.Columns.{Filled, FilledOrRefused, TakesRows};
+use refusals::Refusal;
 use rounding_runs::roundings::Operation;
 use rounding_runs::roundings::rounded;
 use rounding_runs::roundings::takes;
-
-// The number of a call that is accepted.
-const ACCEPTED: u32 = 0;
-
-// The operands' columns are not of one length.
-const WRONG_LENGTH: u32 = 1;
-
-// The answers' column is not as long as the operands'.
-const WRONG_ROOM: u32 = 2;
-
-// A row has operands that the operation does not take.
-const BAD_OPERANDS: u32 = 5;
 
 // Whether the operation takes the operands of every row. None is skipped: a branch in each row would cost more.
 fn takes_rows(o: Operation, a: &[u64], b: &[u64]) -> bool
@@ -50,16 +39,16 @@ fn fill_or_refuse(o: Operation, a: &[u64], b: &[u64], out: &mut [u64]) -> u32
     ensures { λ r. ⌜ FilledOrRefused o (now (a .entry)) (now (b .entry)) (now (out .entry)) r (now (out .exit)) ⌝ }
 {
     if b.len() != a.len() {
-        return WRONG_LENGTH;
+        return Refusal::WRONG_LENGTH.number;
     }
     if out.len() != a.len() {
-        return WRONG_ROOM;
+        return Refusal::WRONG_ROOM.number;
     }
     if !takes_rows(o, a, b) {
-        return BAD_OPERANDS;
+        return Refusal::BAD_ENDS.number;
     }
     fill(o, a, b, out);
-    ACCEPTED
+    Refusal::NONE.number
 }
 
 // The sum of each row.

@@ -1,4 +1,4 @@
-// Upward rounding of sums of doubles, in integers.
+// Upward rounding of sums of doubles, in integers. It stands on signs and exponents of doubles (`significands`) and on packing.
 ghost use Prim.Native.Nat.{_≤_};
 ghost use Rattle.patterns.specs.Format.{binary64};
 ghost use Rattle.patterns.specs.Rounding.{Up, sumOf};

@@ -1,4 +1,5 @@
-// The crate's class tables: what the kinds or classes of two operands choose, before anything is worked out.
+// The crate's class tables: what the kinds or classes of two operands choose, before anything is worked out. They call nothing,
+// and stand on the kinds and corners that theorem 3 speaks of.
 mod product;
 mod quotient;
 

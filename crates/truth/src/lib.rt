@@ -1,1 +1,1 @@
-// What a truth value answers. There is no code here: specs/ has the definition and proofs/ its laws.
+// What a truth value answers. There is no code here, and it stands on nothing: specs/ has the definition and proofs/ its laws.

@@ -1,4 +1,4 @@
--- One state of overlap, one decoration, one verdict on an operand, one outcome of a statement; and what fractions are.
+-- One state of overlap, one decoration, one verdict on an operand, one outcome of a statement.
 pub mod StateLaws
 pub mod ExtendedOrder
 pub mod KeyLaws
@@ -11,5 +11,3 @@ pub mod Decisions
 pub mod Verdicts
 pub mod OverlapLaws
 pub mod DecoratedLaws
-pub mod Differences
-pub mod Faithful

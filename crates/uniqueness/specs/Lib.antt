@@ -1,3 +1,2 @@
--- What the laws of this crate speak of besides the meaning: linear orders and their keys, and fractions with a signed numerator.
+-- What the laws of this crate speak of besides the meaning: linear orders and their keys.
 pub mod Order
-pub mod Signed

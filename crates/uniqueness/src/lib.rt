@@ -1,1 +1,2 @@
-// Laws of overlap's states, of decorations and of valid pairs, and the reading of fractions by signed numerators. There is no code here.
+// One state of overlap, one decoration, one verdict on an operand, one outcome of a statement. There is no code here, and it stands on
+// `meaning` alone.

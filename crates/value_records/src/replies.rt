@@ -10,17 +10,16 @@
 //  the interval part that NaI lacks        | zeros, and 255 last
 use crate::values::Operand;
 use crate::values::ends_of;
-use lent_calls::REPLY;
 use classify::IntervalClass;
 use dec_interval::DecAnswer;
 use dec_interval::DecInterval;
 use dec_interval::DecorationAnswer;
 use dec_interval::PartAnswer;
 use decorations::decoration_byte;
+use end_pairs::EndPair;
 use ends_in_bytes::ByteOrder;
 use ends_in_bytes::read_ends;
 use ends_in_bytes::write_ends;
-use end_pairs::EndPair;
 use interchange::BARE;
 use interchange::bare::BytesAnswer;
 use interchange::decorated::DecBytesAnswer;
@@ -29,20 +28,18 @@ use interval::BoolAnswer;
 use interval::ClassAnswer;
 use interval::EndAnswer;
 use interval::Interval;
+use lent_calls::ANSWER_AT;
+use lent_calls::NUMBER_AT;
+use lent_calls::PLACE_AT;
+use lent_calls::REPLY;
 use overlap::DecState;
 use overlap::OverlapAnswer;
 use overlap::dec_state_number;
 use refusals::Refusal;
 use refusals::SECOND;
 
-// Where the number, the place, the ends and the last byte stand in a reply.
-const NUMBER_AT: usize = 0;
-
-const PLACE_AT: usize = 1;
-
-const ENDS_AT: usize = 2;
-
-const LAST_AT: usize = 18;
+// Where the last byte of the answer stands in a reply.
+const LAST_AT: usize = ANSWER_AT + BARE;
 
 // Stands last, and is no decoration's byte, where NaI has no interval part.
 const MISSING: u8 = 255;
@@ -231,7 +228,7 @@ pub fn written(s: Said) -> [u8; REPLY] {
     let mut reply = [0u8; REPLY];
     reply[NUMBER_AT] = low_byte(s.refusal.number);
     reply[PLACE_AT] = low_byte(s.refusal.place);
-    write_ends(&mut reply[ENDS_AT..], ends, ByteOrder::Big);
+    write_ends(&mut reply[ANSWER_AT..], ends, ByteOrder::Big);
     reply[LAST_AT] = s.last;
     reply
 }

@@ -16,8 +16,9 @@
 // A reply is nineteen bytes: number, place and answer (crates/value_records/src/replies.rt). Number 3 says that no function has the
 // record's number, and 4 with a place that an operand of which the function takes the decoration has a byte that is none. A last
 // piece that is no whole record gets number 1.
-use lent_calls::DECORATED_REQUEST;
 use interchange::DECORATED;
+use lent_calls::DECORATED_REQUEST;
+use lent_calls::FIRST_AT;
 use libc::STDIN_FILENO;
 use libc::STDOUT_FILENO;
 use refusals::Refusal;
@@ -31,9 +32,7 @@ use value_records::values::operand_of;
 // The bytes of a record.
 const RECORD: usize = DECORATED_REQUEST;
 
-// Where the operands stand in a record.
-const FIRST_AT: usize = 1;
-
+// Where the second operand stands in a record.
 const SECOND_AT: usize = FIRST_AT + DECORATED;
 
 // How many numbers a group of functions has, and the groups in order.

@@ -1,4 +1,5 @@
-// The point functions whose results are whole numbers, on one finite bit pattern.
+// The point functions whose results are whole numbers, on one finite bit pattern. They stand on definitions and on the order of
+// ends (`end_pairs`).
 mod functions;
 mod magnitudes;
 mod split;

@@ -2,9 +2,8 @@
 ghost use Prim.Native.Nat.{_<_};
 ghost use Rattle.patterns.specs.Format.{binary64, infinity};
 ghost use Rattle.wholes.specs.Enclosure.{Lies, PartsOf, HasDigits};
+use patterns::FRACTION;
 
-// Bits of the fraction field.
-const FRACTION: u32 = 52;
 // The digit in front of the fraction of a normal number.
 const HIDDEN: u64 = 0x0010_0000_0000_0000;
 // The exponent field of the magnitudes whose last digit is worth 1.

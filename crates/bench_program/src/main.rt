@@ -4,7 +4,7 @@ ghost use mathlib.Core.Bool.{true};
 ghost use mathlib.Core.Path.{_≡_};
 ghost use Prim.Native.Nat.{_≤_};
 ghost use lib.ListN.{length};
-ghost use Rattle.bench.specs.Runs.{LeftByTurn, Ready, Onward};
+ghost use Rattle.bench_program.specs.Runs.{LeftByTurn, Ready, Onward};
 use bench_turn::Run;
 use bench_turn::turn;
 use lent_calls::DECORATED_REQUEST;

@@ -1,9 +1,9 @@
 -- `bench::main` is safe and ends: each turn leaves fewer bytes to take.
 use borrow.Author.Needs.{needs}
 use borrow.Author.Tests.{not-false}
-use Rattle.bench.specs.Runs.{Ready, bytesLeft}
-use Rattle.bench.proofs.main.Statement.{statement}
-use Rattle.bench.proofs.main.Tie as tie
+use Rattle.bench_program.specs.Runs.{Ready, bytesLeft}
+use Rattle.bench_program.proofs.main.Statement.{statement}
+use Rattle.bench_program.proofs.main.Tie as tie
 
 abbrev Inv-loop : tie.InvT-loop
 Inv-loop input₀ output₀ run₀ input output run = Ready (run .held) (run .answered) input output

@@ -5,9 +5,9 @@ use native.Mathlib.Omega.{arith}
 use borrow.Author.Needs.{needs}
 use lib.ListN.{length}
 use lib.Seq.{length-take-le}
-use Rattle.bench.proofs.OnwardLaws.{held-stays, onward, written-fits, left-by-turn}
-use Rattle.bench.proofs.answer_some.Statement.{statement}
-use Rattle.bench.proofs.answer_some.Tie as tie
+use Rattle.bench_program.proofs.OnwardLaws.{held-stays, onward, written-fits, left-by-turn}
+use Rattle.bench_program.proofs.answer_some.Statement.{statement}
+use Rattle.bench_program.proofs.answer_some.Tie as tie
 
 slice-reshare-prefix-write-left : tie.Need-slice-reshare-prefix-write-left
 slice-reshare-prefix-write-left c = written-fits (c .before .before .before .before .turn .ensures)

@@ -5,9 +5,9 @@ use mathlib.Core.Logic.{_↔_}
 use Prim.Native.Nat.{ℕ, _*_}
 use native.Mathlib.Omega.{arith}
 use lib.IntN.{ℤ, pos, _*ℤ_}
 use Rattle.meaning.specs.Fraction.{Fraction, _≼_, _≺_, _≈_, _⊕_, _⊗_, negated}
-use Rattle.uniqueness.specs.Signed.{Signed, _≤ˢ_, _<ˢ_, _=ˢ_, _+ˢ_, _*ˢ_, negatedˢ, signed}
-use Rattle.uniqueness.proofs.Differences.{above, below, Difference, of-self, other, of-neg, of-add, of-mul, le-difference, lt-difference, eq-difference}
+use Rattle.meaning.specs.Signed.{Signed, _≤ˢ_, _<ˢ_, _=ˢ_, _+ˢ_, _*ˢ_, negatedˢ, signed}
+use Rattle.meaning.proofs.Differences.{above, below, Difference, of-self, other, of-neg, of-add, of-mul, le-difference, lt-difference, eq-difference}
 
 of-numerator : (x : Fraction) → Difference (signed x .numerator) (x .up) (x .down)
 of-numerator x = other (of-add _ _ (of-self (pos (x .up))) (of-neg _ (of-self (pos (x .down))))) (omega arith)

@@ -1,4 +1,4 @@
--- `made::settle` meets its contract: Ill gives NaI, any other decoration the tidied interval.
+-- `made::with_decoration` meets its contract: Ill gives NaI, any other decoration the tidied interval.
 use mathlib.Core.Path.{_∙_, sym, ap, subst⁻¹}
 use borrow.Author.Needs.{needs}
 use Rattle.patterns.specs.Format.{binary64, infinity, quietNaN}
@@ -6,8 +6,8 @@ use Rattle.meaning.specs.Decorations.{decorationByte}
 use Rattle.meaning.specs.Bytes.{Tidied}
 use Rattle.dec_interval.specs.Values.{setNaI, setInterval}
 use Rattle.decorations.proofs.DecorationLaws.{ill-byte}
-use Rattle.dec_interval.proofs.made.settle.Statement.{statement}
-use Rattle.dec_interval.proofs.made.settle.Tie as tie
+use Rattle.dec_interval.proofs.made.with_decoration.Statement.{statement}
+use Rattle.dec_interval.proofs.made.with_decoration.Tie as tie
 
 returns : tie.Need-returns
 unfolding infinity quietNaN
@@ -22,5 +22,5 @@ returns-2 c =
     (λ e. c .before .before .before .if1 .left (c .before .before .before .before .decoration-byte .ensures ∙ ap decorationByte e))
     (subst⁻¹ (Tidied binary64 _) (c .before .from-ends .ensures) (c .before .before .canonical .ensures)) (c .settled .ensures)
 
-pub settle-spec : {M : Type 1} → statement M
-settle-spec = tie.close (tie.spec (search needs) returns (λ c κs. search needs) from-ends-requires (λ c κs. search needs) returns-2)
+pub with-decoration-spec : {M : Type 1} → statement M
+with-decoration-spec = tie.close (tie.spec (search needs) returns (λ c κs. search needs) from-ends-requires (λ c κs. search needs) returns-2)

@@ -12,7 +12,7 @@ use Rattle.bench_run.specs.Turn.{Turn, Turns, nextTurn}
 use Rattle.bench_run.proofs.RunLaws.{goes-on}
 use Rattle.bench_turn.specs.Buffers.{TurnOn}
 use Rattle.bench_turn.specs.declared.one_turn.Run.{Run}
-use Rattle.bench.specs.Runs.{LeftByTurn, Onward}
+use Rattle.bench_program.specs.Runs.{LeftByTurn, Onward}
 
 -- Bytes that arrive behind those that are held leave them as they are.
 pub held-stays : (held : ℕ) (input l : List ℕ) → held ≤ length input → take held (putMid held (length input - held) input l) ≡ take held input

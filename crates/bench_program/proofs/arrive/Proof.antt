@@ -3,8 +3,8 @@ use mathlib.Core.Path.{_≡_}
 use Prim.Native.Nat.{ℕ, _-_, _≤_}
 use borrow.Author.Needs.{needs}
 use lib.ListN.{length}
-use Rattle.bench.proofs.arrive.Statement.{statement}
-use Rattle.bench.proofs.arrive.Tie as tie
+use Rattle.bench_program.proofs.arrive.Statement.{statement}
+use Rattle.bench_program.proofs.arrive.Tie as tie
 
 abbrev tryMost : ℕ
 tryMost = 16
