@@ -1,5 +1,5 @@
 -- Laws of interchange bytes.
 pub mod ReadLaws
-pub mod LentLaws
+pub mod SliceLaws
 pub mod RoundTrip
 pub mod OneAnswer

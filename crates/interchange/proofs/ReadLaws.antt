@@ -12,7 +12,7 @@ use Rattle.meaning.specs.Bytes.{ByteOrder, readPair, SaysDecoration, BytesEnds,
 use Rattle.decorations.specs.DecorationMeaning.{decorationOf}
 use Rattle.decorations.specs.declared.types.Decoration.{Decoration}
 use Rattle.interchange.specs.Reading.{SaidBy, says, saysNone, JudgedRead, readFive, readSix, readGood, ReadAs, asNaI, asItself}
-use Rattle.interchange.specs.declared.reading.ByteDecoration.{ByteDecoration}
+use Rattle.interchange.specs.declared.taken_apart.ByteDecoration.{ByteDecoration}
 
 pub known : {b : ℕ} {r : ByteDecoration} {d : Decoration} → SaidBy b r → r ≡ ByteDecoration.Known d
     → b ≡ meant.decorationByte (decorationOf d)

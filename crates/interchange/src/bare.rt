@@ -6,9 +6,9 @@ ghost use Rattle.meaning.specs.Bytes.{bigEndian, littleEndian, readPair, Judged
 ghost use Rattle.interval.specs.IntervalMeaning.{pairOf, outcome};
 ghost use Rattle.ends_in_bytes.specs.ByteOrderMeaning.{orderOf};
 ghost use Rattle.interchange.specs.Written.{AnsweredBy, WrittenBare, bytesAnswerOf};
-use crate::lent::BARE;
-use crate::lent::read_bare;
-use crate::lent::write_bare;
+use crate::slices::BARE;
+use crate::slices::read_bare;
+use crate::slices::write_bare;
 use end_pairs::canonical;
 use ends_in_bytes::ByteOrder;
 use interval::Answer;

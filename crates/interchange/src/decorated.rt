@@ -5,9 +5,9 @@ ghost use Rattle.meaning.specs.Bytes.{bigEndian, littleEndian, JudgedDecBytes, 
 ghost use Rattle.dec_interval.specs.DecIntervalMeaning.{decPairOf, decOutcome};
 ghost use Rattle.ends_in_bytes.specs.ByteOrderMeaning.{orderOf};
 ghost use Rattle.interchange.specs.Written.{AnsweredBy, WrittenDec, decBytesAnswerOf};
-use crate::lent::DECORATED;
-use crate::lent::read_decorated;
-use crate::lent::write_decorated;
+use crate::slices::DECORATED;
+use crate::slices::read_decorated;
+use crate::slices::write_decorated;
 use dec_interval::DecAnswer;
 use dec_interval::DecInterval;
 use dec_interval::canonical_dec;

@@ -3,14 +3,14 @@
 pub mod bare;
 mod canonical;
 pub mod decorated;
-mod lent;
-mod reading;
+mod slices;
+mod taken_apart;
 
-pub use lent::BARE;
-pub use lent::DECORATED;
-pub use lent::read_bare;
-pub use lent::read_decorated;
-pub use lent::write_bare;
-pub use lent::write_decorated;
-pub use reading::ByteDecoration;
-pub use reading::decoration_of;
+pub use slices::BARE;
+pub use slices::DECORATED;
+pub use slices::read_bare;
+pub use slices::read_decorated;
+pub use slices::write_bare;
+pub use slices::write_decorated;
+pub use taken_apart::ByteDecoration;
+pub use taken_apart::decoration_of;

@@ -1,4 +1,4 @@
--- `lent::write_decorated` meets its contract: the ends are written first, and the byte behind them.
+-- `slices::write_decorated` meets its contract: the ends are written first, and the byte behind them.
 use mathlib.Core.Path.{_∙_, ap}
 use mathlib.Core.List.{[], _∷_, _++_}
 use Prim.Native.Nat.{ℕ}
@@ -7,9 +7,9 @@ use Rattle.meaning.specs.Bytes.{writePair}
 use Rattle.dec_interval.specs.DecIntervalMeaning.{decPairOf}
 use Rattle.ends_in_bytes.specs.ByteOrderMeaning.{orderOf}
 use Rattle.ends_in_bytes.proofs.EightByteLaws.{length-pair}
-use Rattle.interchange.proofs.LentLaws.{last-byte}
-use Rattle.interchange.proofs.lent.write_decorated.Statement.{statement}
-use Rattle.interchange.proofs.lent.write_decorated.Tie as tie
+use Rattle.interchange.proofs.SliceLaws.{last-byte}
+use Rattle.interchange.proofs.slices.write_decorated.Statement.{statement}
+use Rattle.interchange.proofs.slices.write_decorated.Tie as tie
 
 returns : tie.Need-returns
 returns c =

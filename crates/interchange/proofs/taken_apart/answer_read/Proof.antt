@@ -1,4 +1,4 @@
--- `reading::answer_read` meets its contract: the ends are judged before the decoration.
+-- `taken_apart::answer_read` meets its contract: the ends are judged before the decoration.
 use borrow.Author.Tests.{not-true, not-false}
 use borrow.Author.Needs.{needs}
 use Rattle.meaning.specs.Statement.{first₁, right₁}
@@ -7,8 +7,8 @@ use Rattle.interval.proofs.StatementLaws.{sound₁, refused₁}
 use Rattle.decorations.proofs.AgreeLaws.{sound-agrees}
 use Rattle.interchange.specs.Reading.{readFive, readGood}
 use Rattle.interchange.proofs.ReadLaws.{wrong-read}
-use Rattle.interchange.proofs.reading.answer_read.Statement.{statement}
-use Rattle.interchange.proofs.reading.answer_read.Tie as tie
+use Rattle.interchange.proofs.taken_apart.answer_read.Statement.{statement}
+use Rattle.interchange.proofs.taken_apart.answer_read.Tie as tie
 
 returns : tie.Need-returns
 returns c = first₁ (readFive (said-no (c .before .has-bytes-ends .ensures) (not-true _ (c .if1 .taken))))

@@ -1,4 +1,4 @@
--- `lent::read_decorated` meets its contract: the byte is judged before the ends and the decoration.
+-- `slices::read_decorated` meets its contract: the byte is judged before the ends and the decoration.
 use mathlib.Core.Path.{sym, _∙_}
 use native.Mathlib.Omega.{arith}
 use borrow.Author.Needs.{needs}
@@ -6,10 +6,10 @@ use lib.Dec.{lit≤}
 use Rattle.meaning.specs.Statement.{first₁}
 use Rattle.meaning.specs.Bytes.{bytesFour}
 use Rattle.ends_in_bytes.specs.ByteOrderMeaning.{orderOf}
-use Rattle.interchange.proofs.LentLaws.{read-part, byte-part}
+use Rattle.interchange.proofs.SliceLaws.{read-part, byte-part}
 use Rattle.interchange.proofs.ReadLaws.{known, unknown, read-known}
-use Rattle.interchange.proofs.lent.read_decorated.Statement.{statement}
-use Rattle.interchange.proofs.lent.read_decorated.Tie as tie
+use Rattle.interchange.proofs.slices.read_decorated.Statement.{statement}
+use Rattle.interchange.proofs.slices.read_decorated.Tie as tie
 
 returns : tie.Need-returns
 returns c =

@@ -1,4 +1,4 @@
--- `lent::read_bare` meets its contract: the ends that were read are answered if they are canonical.
+-- `slices::read_bare` meets its contract: the ends that were read are answered if they are canonical.
 use mathlib.Core.Path.{_∙_, subst, subst⁻¹}
 use borrow.Author.Needs.{needs}
 use lib.Dec.{lit≤}
@@ -8,9 +8,9 @@ use Rattle.meaning.specs.Statement.{first₁, right₁}
 use Rattle.meaning.specs.Bytes.{bytesFive, bytesGood}
 use Rattle.truth.proofs.AnswerLaws.{said-yes, said-no}
 use Rattle.ends_in_bytes.specs.ByteOrderMeaning.{orderOf}
-use Rattle.interchange.proofs.LentLaws.{read-part}
-use Rattle.interchange.proofs.lent.read_bare.Statement.{statement}
-use Rattle.interchange.proofs.lent.read_bare.Tie as tie
+use Rattle.interchange.proofs.SliceLaws.{read-part}
+use Rattle.interchange.proofs.slices.read_bare.Statement.{statement}
+use Rattle.interchange.proofs.slices.read_bare.Tie as tie
 
 from-ends-requires : tie.Need-from-ends-requires
 from-ends-requires c κs = said-yes (c .before .is-canonical .ensures) (c .if1 .taken) .bare
