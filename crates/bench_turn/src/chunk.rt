@@ -2,12 +2,12 @@
 ghost use Rattle.request_laws.specs.Chunk.{Chunk, Replied};
 ghost use Rattle.bench_turn.specs.Room.{Roomy};
 use decorated_request::request_decorated;
-use interchange::DECORATED;
 use lent_calls::ANSWER_AT;
 use lent_calls::DECORATED_REQUEST;
 use lent_calls::NUMBER_AT;
 use lent_calls::PLACE_AT;
 use lent_calls::REPLY;
+use lent_intervals::DECORATED;
 
 // The reply to one request, or to bytes that are none.
 fn reply(request: &[u8]) -> [u8; REPLY]

@@ -4,10 +4,10 @@ ghost use Rattle.meaning.specs.Bytes.{bigEndian, littleEndian};
 ghost use Rattle.meaning.specs.Requests.{BareCodec};
 ghost use Rattle.ends_in_bytes.specs.ByteOrderMeaning.{orderOf};
 use ends_in_bytes::ByteOrder;
-use interchange::BARE;
-use interchange::read_bare;
-use interchange::write_bare;
 use interval::Answer;
+use lent_intervals::BARE;
+use lent_intervals::read_bare;
+use lent_intervals::write_bare;
 use refusals::Refusal;
 
 fn recode(input: &[u8], output: &mut [u8], from: ByteOrder, to: ByteOrder) -> Refusal

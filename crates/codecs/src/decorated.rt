@@ -5,9 +5,9 @@ ghost use Rattle.meaning.specs.Requests.{DecoratedCodec};
 ghost use Rattle.ends_in_bytes.specs.ByteOrderMeaning.{orderOf};
 use dec_interval::DecAnswer;
 use ends_in_bytes::ByteOrder;
-use interchange::DECORATED;
-use interchange::read_decorated;
-use interchange::write_decorated;
+use lent_intervals::DECORATED;
+use lent_intervals::read_decorated;
+use lent_intervals::write_decorated;
 use refusals::Refusal;
 
 fn recode(input: &[u8], output: &mut [u8], from: ByteOrder, to: ByteOrder) -> Refusal

@@ -1,5 +1,5 @@
 // Codecs on lent bytes: one interval from one byte order into the other. They stand on what reads and writes intervals in lent
-// bytes (`interchange`).
+// bytes (`lent_intervals`).
 mod bare;
 mod decorated;
 

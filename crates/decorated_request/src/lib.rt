@@ -1,4 +1,4 @@
-// Decorated requests: 35 bytes, answered by 17. They stand on intervals in lent bytes (`interchange`) and on the operations by
+// Decorated requests: 35 bytes, answered by 17. They stand on intervals in lent bytes (`lent_intervals`) and on the operations by
 // number (`operations`).
 ghost use mathlib.Core.Path.{_≡_};
 ghost use mathlib.Core.List.{[], _∷_};
@@ -10,9 +10,9 @@ ghost use Rattle.meaning.specs.Calls.{Called};
 
 mod operation;
 
-use interchange::DECORATED;
 use lent_calls::DECORATED_REQUEST;
 use lent_calls::NUMBER_AT;
+use lent_intervals::DECORATED;
 use operation::one_operand;
 use operation::overlap_state;
 use operation::two_operands;

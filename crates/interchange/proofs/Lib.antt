@@ -1,5 +1,3 @@
 -- Laws of interchange bytes.
-pub mod ReadLaws
-pub mod SliceLaws
 pub mod RoundTrip
 pub mod OneAnswer

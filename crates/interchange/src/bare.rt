@@ -6,15 +6,15 @@ ghost use Rattle.meaning.specs.Bytes.{bigEndian, littleEndian, readPair, Judged
 ghost use Rattle.interval.specs.IntervalMeaning.{pairOf, outcome};
 ghost use Rattle.ends_in_bytes.specs.ByteOrderMeaning.{orderOf};
 ghost use Rattle.interchange.specs.Written.{AnsweredBy, WrittenBare, bytesAnswerOf};
-use crate::slices::BARE;
-use crate::slices::read_bare;
-use crate::slices::write_bare;
 use end_pairs::canonical;
 use ends_in_bytes::ByteOrder;
 use interval::Answer;
 use interval::Interval;
 use interval::Verdict;
 use interval::judge;
+use lent_intervals::BARE;
+use lent_intervals::read_bare;
+use lent_intervals::write_bare;
 use refusals::Refusal;
 
 // Sixteen bytes and no refusal, or a refusal with zero bytes.

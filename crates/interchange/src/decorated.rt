@@ -5,15 +5,15 @@ ghost use Rattle.meaning.specs.Bytes.{bigEndian, littleEndian, JudgedDecBytes, 
 ghost use Rattle.dec_interval.specs.DecIntervalMeaning.{decPairOf, decOutcome};
 ghost use Rattle.ends_in_bytes.specs.ByteOrderMeaning.{orderOf};
 ghost use Rattle.interchange.specs.Written.{AnsweredBy, WrittenDec, decBytesAnswerOf};
-use crate::slices::DECORATED;
-use crate::slices::read_decorated;
-use crate::slices::write_decorated;
 use dec_interval::DecAnswer;
 use dec_interval::DecInterval;
 use dec_interval::canonical_dec;
 use decorations::judge_dec;
 use ends_in_bytes::ByteOrder;
 use interval::Verdict;
+use lent_intervals::DECORATED;
+use lent_intervals::read_decorated;
+use lent_intervals::write_decorated;
 use refusals::Refusal;
 
 // Seventeen bytes and no refusal, or a refusal with zero bytes.

@@ -1,10 +1,10 @@
 // What calls on lent bytes share: how long their bytes are, how a state is written, and a refusal packed. It stands on the sizes of
-// intervals (`interchange`).
+// intervals (`lent_intervals`).
 mod number;
 mod state;
 
-use interchange::BARE;
-use interchange::DECORATED;
+use lent_intervals::BARE;
+use lent_intervals::DECORATED;
 pub use number::packed;
 pub use state::write_state;
 

@@ -3,7 +3,7 @@ ghost use mathlib.Core.Path.{_≡_};
 ghost use Prim.Native.Nat.{_<_, _≤_};
 ghost use lib.ListN.{length};
 ghost use Rattle.meaning.specs.Requests.{writeState};
-use interchange::DECORATED;
+use lent_intervals::DECORATED;
 
 // The state number, then zero bytes, over the whole output of a bare or a decorated call.
 pub fn write_state(state: u8, output: &mut [u8])

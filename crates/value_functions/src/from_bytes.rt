@@ -2,11 +2,11 @@
 ghost use Prim.Native.Nat.{_≤_};
 ghost use lib.ListN.{length};
 use dec_interval::DecInterval;
-use interchange::BARE;
-use interchange::DECORATED;
 use interchange::bare;
 use interchange::decorated;
 use interval::Interval;
+use lent_intervals::BARE;
+use lent_intervals::DECORATED;
 use value_records::replies;
 use value_records::replies::Said;
 

@@ -6,11 +6,11 @@ use decorations::Decoration;
 use end_pairs::EndPair;
 use ends_in_bytes::ByteOrder;
 use ends_in_bytes::read_ends;
-use interchange::BARE;
-use interchange::ByteDecoration;
-use interchange::DECORATED;
-use interchange::decoration_of;
 use interval::Interval;
+use lent_intervals::BARE;
+use lent_intervals::ByteDecoration;
+use lent_intervals::DECORATED;
+use lent_intervals::decoration_of;
 
 // What is passed: a decorated interval, and whether its byte is a decoration's. If it is none, Ill stands in for it.
 pub struct Operand {

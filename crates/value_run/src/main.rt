@@ -16,9 +16,9 @@
 // A reply is nineteen bytes: number, place and answer (crates/value_records/src/replies.rt). Number 3 says that no function has the
 // record's number, and 4 with a place that an operand of which the function takes the decoration has a byte that is none. A last
 // piece that is no whole record gets number 1.
-use interchange::DECORATED;
 use lent_calls::DECORATED_REQUEST;
 use lent_calls::FIRST_AT;
+use lent_intervals::DECORATED;
 use libc::STDIN_FILENO;
 use libc::STDOUT_FILENO;
 use refusals::Refusal;

@@ -3,10 +3,10 @@ use borrow.Author.Needs.{needs}
 use Rattle.patterns.specs.Format.{binary64, infinity, quietNaN}
 use Rattle.truth.proofs.AnswerLaws.{said-yes, said-no}
 use Rattle.end_pairs.proofs.KindLaws.{only-bare}
-use Rattle.interchange.specs.Reading.{asNaI}
-use Rattle.interchange.proofs.ReadLaws.{bytes-ends, as-itself}
-use Rattle.interchange.proofs.taken_apart.read_as.Statement.{statement}
-use Rattle.interchange.proofs.taken_apart.read_as.Tie as tie
+use Rattle.lent_intervals.specs.Reading.{asNaI}
+use Rattle.lent_intervals.proofs.ReadLaws.{bytes-ends, as-itself}
+use Rattle.lent_intervals.proofs.taken_apart.read_as.Statement.{statement}
+use Rattle.lent_intervals.proofs.taken_apart.read_as.Tie as tie
 
 returns : tie.Need-returns
 unfolding infinity quietNaN

@@ -6,10 +6,10 @@ use lib.Dec.{lit≤}
 use Rattle.meaning.specs.Statement.{first₁}
 use Rattle.meaning.specs.Bytes.{bytesFour}
 use Rattle.ends_in_bytes.specs.ByteOrderMeaning.{orderOf}
-use Rattle.interchange.proofs.SliceLaws.{read-part, byte-part}
-use Rattle.interchange.proofs.ReadLaws.{known, unknown, read-known}
-use Rattle.interchange.proofs.slices.read_decorated.Statement.{statement}
-use Rattle.interchange.proofs.slices.read_decorated.Tie as tie
+use Rattle.lent_intervals.proofs.SliceLaws.{read-part, byte-part}
+use Rattle.lent_intervals.proofs.ReadLaws.{known, unknown, read-known}
+use Rattle.lent_intervals.proofs.slices.read_decorated.Statement.{statement}
+use Rattle.lent_intervals.proofs.slices.read_decorated.Tie as tie
 
 returns : tie.Need-returns
 returns c =

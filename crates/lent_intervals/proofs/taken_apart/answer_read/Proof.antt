@@ -5,10 +5,10 @@ use Rattle.meaning.specs.Statement.{first₁, right₁}
 use Rattle.truth.proofs.AnswerLaws.{said-yes, said-no}
 use Rattle.interval.proofs.StatementLaws.{sound₁, refused₁}
 use Rattle.decorations.proofs.AgreeLaws.{sound-agrees}
-use Rattle.interchange.specs.Reading.{readFive, readGood}
-use Rattle.interchange.proofs.ReadLaws.{wrong-read}
-use Rattle.interchange.proofs.taken_apart.answer_read.Statement.{statement}
-use Rattle.interchange.proofs.taken_apart.answer_read.Tie as tie
+use Rattle.lent_intervals.specs.Reading.{readFive, readGood}
+use Rattle.lent_intervals.proofs.ReadLaws.{wrong-read}
+use Rattle.lent_intervals.proofs.taken_apart.answer_read.Statement.{statement}
+use Rattle.lent_intervals.proofs.taken_apart.answer_read.Tie as tie
 
 returns : tie.Need-returns
 returns c = first₁ (readFive (said-no (c .before .has-bytes-ends .ensures) (not-true _ (c .if1 .taken))))

@@ -7,9 +7,9 @@ use Rattle.meaning.specs.Bytes.{writePair}
 use Rattle.dec_interval.specs.DecIntervalMeaning.{decPairOf}
 use Rattle.ends_in_bytes.specs.ByteOrderMeaning.{orderOf}
 use Rattle.ends_in_bytes.proofs.EightByteLaws.{length-pair}
-use Rattle.interchange.proofs.SliceLaws.{last-byte}
-use Rattle.interchange.proofs.slices.write_decorated.Statement.{statement}
-use Rattle.interchange.proofs.slices.write_decorated.Tie as tie
+use Rattle.lent_intervals.proofs.SliceLaws.{last-byte}
+use Rattle.lent_intervals.proofs.slices.write_decorated.Statement.{statement}
+use Rattle.lent_intervals.proofs.slices.write_decorated.Tie as tie
 
 returns : tie.Need-returns
 returns c =

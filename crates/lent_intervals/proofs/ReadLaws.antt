@@ -11,8 +11,8 @@ use Rattle.meaning.specs.Statement.{Outcome, refused, Found₁, Answered₁, fi
 use Rattle.meaning.specs.Bytes.{ByteOrder, readPair, SaysDecoration, BytesEnds, canonicalEnds, nanEnds, JudgedDecBytes, decBytesFive, decBytesSix, decBytesGood, ReadDecorated, readNaI, readInterval}
 use Rattle.decorations.specs.DecorationMeaning.{decorationOf}
 use Rattle.decorations.specs.declared.types.Decoration.{Decoration}
-use Rattle.interchange.specs.Reading.{SaidBy, says, saysNone, JudgedRead, readFive, readSix, readGood, ReadAs, asNaI, asItself}
-use Rattle.interchange.specs.declared.taken_apart.ByteDecoration.{ByteDecoration}
+use Rattle.lent_intervals.specs.Reading.{SaidBy, says, saysNone, JudgedRead, readFive, readSix, readGood, ReadAs, asNaI, asItself}
+use Rattle.lent_intervals.specs.declared.taken_apart.ByteDecoration.{ByteDecoration}
 
 pub known : {b : ℕ} {r : ByteDecoration} {d : Decoration} → SaidBy b r → r ≡ ByteDecoration.Known d
     → b ≡ meant.decorationByte (decorationOf d)

@@ -1,8 +1,8 @@
 -- `taken_apart::decoration_of` meets its contract: each arm is one decoration's byte, and the last is none.
-use Rattle.interchange.specs.Reading.{says}
-use Rattle.interchange.proofs.ReadLaws.{says-none}
-use Rattle.interchange.proofs.taken_apart.decoration_of.Statement.{statement}
-use Rattle.interchange.proofs.taken_apart.decoration_of.Tie as tie
+use Rattle.lent_intervals.specs.Reading.{says}
+use Rattle.lent_intervals.proofs.ReadLaws.{says-none}
+use Rattle.lent_intervals.proofs.taken_apart.decoration_of.Statement.{statement}
+use Rattle.lent_intervals.proofs.taken_apart.decoration_of.Tie as tie
 
 returns : tie.Need-returns
 returns c = says (c .match .keys1)

@@ -1,8 +1,8 @@
 -- `slices::write_bare` meets its contract: the ends fill the whole output.
 use borrow.Author.Needs.{needs}
-use Rattle.interchange.proofs.SliceLaws.{whole}
-use Rattle.interchange.proofs.slices.write_bare.Statement.{statement}
-use Rattle.interchange.proofs.slices.write_bare.Tie as tie
+use Rattle.lent_intervals.proofs.SliceLaws.{whole}
+use Rattle.lent_intervals.proofs.slices.write_bare.Statement.{statement}
+use Rattle.lent_intervals.proofs.slices.write_bare.Tie as tie
 
 returns : tie.Need-returns
 returns c =

@@ -8,7 +8,7 @@ use Rattle.meaning.specs.Statement.{Verdict, sound, wrong, DecPair, naI, Agrees
 use Rattle.meaning.specs.Bytes.{BytesEnds}
 use Rattle.decorations.specs.DecorationMeaning.{decorationOf}
 use Rattle.decorations.specs.declared.types.Decoration.{Decoration}
-use Rattle.interchange.specs.declared.taken_apart.ByteDecoration.{ByteDecoration}
+use Rattle.lent_intervals.specs.declared.taken_apart.ByteDecoration.{ByteDecoration}
 
 -- What a seventeenth byte says.
 pub data SaidBy (b : ℕ) : ByteDecoration → Type 0 where

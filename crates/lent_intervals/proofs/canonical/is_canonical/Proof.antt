@@ -3,8 +3,8 @@ use borrow.Author.Needs.{needs}
 use Rattle.patterns.specs.Format.{signBit}
 use Rattle.truth.specs.Answers.{denied}
 use Rattle.truth.proofs.AnswerLaws.{answers-iff}
-use Rattle.interchange.proofs.canonical.is_canonical.Statement.{statement}
-use Rattle.interchange.proofs.canonical.is_canonical.Tie as tie
+use Rattle.lent_intervals.proofs.canonical.is_canonical.Statement.{statement}
+use Rattle.lent_intervals.proofs.canonical.is_canonical.Tie as tie
 
 returns : tie.Need-returns
 returns c = denied (λ k. k .lowerZero (c .if1 .taken))

@@ -8,9 +8,9 @@ use Rattle.meaning.specs.Statement.{first₁, right₁}
 use Rattle.meaning.specs.Bytes.{bytesFive, bytesGood}
 use Rattle.truth.proofs.AnswerLaws.{said-yes, said-no}
 use Rattle.ends_in_bytes.specs.ByteOrderMeaning.{orderOf}
-use Rattle.interchange.proofs.SliceLaws.{read-part}
-use Rattle.interchange.proofs.slices.read_bare.Statement.{statement}
-use Rattle.interchange.proofs.slices.read_bare.Tie as tie
+use Rattle.lent_intervals.proofs.SliceLaws.{read-part}
+use Rattle.lent_intervals.proofs.slices.read_bare.Statement.{statement}
+use Rattle.lent_intervals.proofs.slices.read_bare.Tie as tie
 
 from-ends-requires : tie.Need-from-ends-requires
 from-ends-requires c κs = said-yes (c .before .is-canonical .ensures) (c .if1 .taken) .bare

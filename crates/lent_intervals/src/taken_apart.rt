@@ -5,7 +5,7 @@ ghost use Rattle.meaning.specs.Bytes.{BytesEnds};
 ghost use Rattle.decorations.specs.DecorationMeaning.{decorationOf};
 ghost use Rattle.dec_interval.specs.DecIntervalMeaning.{decPairOf, decOutcome};
 ghost use Rattle.end_pairs.specs.EndPairMeaning.{pairOf};
-ghost use Rattle.interchange.specs.Reading.{SaidBy, JudgedRead, ReadAs};
+ghost use Rattle.lent_intervals.specs.Reading.{SaidBy, JudgedRead, ReadAs};
 use crate::canonical::has_bytes_ends;
 use dec_interval::DecAnswer;
 use dec_interval::DecInterval;

@@ -2,9 +2,9 @@
 use borrow.Author.Needs.{needs}
 use Rattle.meaning.specs.Bytes.{canonicalEnds, nanEnds}
 use Rattle.truth.proofs.AnswerLaws.{answers-iff, said-no, yes-so}
-use Rattle.interchange.proofs.ReadLaws.{only-nans}
-use Rattle.interchange.proofs.canonical.has_bytes_ends.Statement.{statement}
-use Rattle.interchange.proofs.canonical.has_bytes_ends.Tie as tie
+use Rattle.lent_intervals.proofs.ReadLaws.{only-nans}
+use Rattle.lent_intervals.proofs.canonical.has_bytes_ends.Statement.{statement}
+use Rattle.lent_intervals.proofs.canonical.has_bytes_ends.Tie as tie
 
 returns : tie.Need-returns
 returns c = yes-so canonicalEnds (c .before .is-canonical .ensures) (c .if1 .taken)

@@ -1,0 +1,3 @@
+-- Laws of reading and writing intervals in lent bytes.
+pub mod ReadLaws
+pub mod SliceLaws

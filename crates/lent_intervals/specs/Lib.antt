@@ -1,0 +1,2 @@
+-- What the contracts of intervals in lent bytes cite.
+pub mod Reading
