@@ -1,11 +1,11 @@
 -- Eight bytes taken from a place of a list, and put there.
 use mathlib.Core.Path.{_≡_, refl, sym, _∙_, ap, ap₂}
-use mathlib.Core.List.{List, [], _∷_, _++_, append-assoc, append-nil}
+use mathlib.Core.List.{List, [], _++_, append-assoc, append-nil}
 use Prim.Native.Nat.{ℕ, _+_, _-_, _≤_}
 use native.Mathlib.Nat.{le-of-eq, le-refl}
 use native.Mathlib.Omega.{arith}
-use lib.ListN.{length, take, drop, set, length-drop, drop-of-length-le}
-use lib.Seq.{length-take-le, take-all, take-add, take-at, take-take, drop-at, drop-drop, set-at}
+use lib.ListN.{length, take, drop, length-drop, drop-of-length-le}
+use lib.Seq.{length-take-le, take-all, take-add, take-at, take-take, drop-at, drop-drop}
 use borrow.Rule.Slice.PartMut.{putMid}
 use Rattle.meaning.specs.Pairs.{Pair}
 use Rattle.meaning.specs.Bytes.{ByteOrder, bigEndian, littleEndian, readEnd, readPair, writePair}
@@ -73,7 +73,3 @@ part-ends o n l long some =
 pub length-pair : (o : ByteOrder) (p : Pair) → length (writePair o p) ≡ 16
 length-pair bigEndian p = refl
 length-pair littleEndian p = refl
-
--- The byte after the sixteen of two ends.
-pub placed-byte : (o : ByteOrder) (p : Pair) (b : ℕ) (l : List ℕ) → l ≡ writePair o p ++ (0 ∷ []) → set l 16 b ≡ writePair o p ++ (b ∷ [])
-placed-byte o p b l e = ap (λ (l : List ℕ). set l 16 b) e ∙ set-at (writePair o p) 0 [] b 16 (length-pair o p)

@@ -8,17 +8,17 @@ use lent_intervals::DECORATED;
 pub use number::packed;
 pub use state::write_state;
 
-// The bytes of a bare request: an operation number and two operands.
-pub const BARE_REQUEST: usize = 1 + 2 * BARE;
-
-// The bytes of a decorated request.
-pub const DECORATED_REQUEST: usize = 1 + 2 * DECORATED;
-
 // Where the number stands, of the operation in a request and of the refusal in a reply.
 pub const NUMBER_AT: usize = 0;
 
 // Where the first operand of a request starts.
 pub const FIRST_AT: usize = 1;
+
+// The bytes of a bare request: an operation number and two operands.
+pub const BARE_REQUEST: usize = FIRST_AT + 2 * BARE;
+
+// The bytes of a decorated request.
+pub const DECORATED_REQUEST: usize = FIRST_AT + 2 * DECORATED;
 
 // Where the place stands in a reply of the bench program, and where the answer starts.
 pub const PLACE_AT: usize = 1;

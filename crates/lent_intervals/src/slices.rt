@@ -29,7 +29,7 @@ pub const BARE: usize = 16;
 pub const DECORATED: usize = 17;
 
 // Where the decoration's byte stands among them.
-const DECORATION_AT: usize = 16;
+const DECORATION_AT: usize = BARE;
 
 // What the sixteen bytes from a position on stand for.
 pub fn read_bare(s: &[u8], start: usize, order: ByteOrder) -> Answer

@@ -151,10 +151,6 @@ pub mul-assoc : (x y z : Fraction) → x ⊗ y ⊗ z ≈ x ⊗ (y ⊗ z)
 unfolding _⊗_
 mul-assoc x y z = record { eq = omega arith }
 
-pub mul-neg : (x y : Fraction) → x ⊗ negated y ≈ negated (x ⊗ y)
-unfolding _⊗_
-mul-neg x y = record { eq = omega arith }
-
 pub mul-zero : (x : Fraction) → x ⊗ whole 0 ≈ whole 0
 unfolding _⊗_
 mul-zero x = record { eq = omega arith }

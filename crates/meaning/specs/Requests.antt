@@ -9,7 +9,7 @@ use Rattle.meaning.specs.Sets.{Set}
 use Rattle.meaning.specs.Pairs.{setOf}
 use Rattle.meaning.specs.Points.{Unary, neg, abs, ceil, floor, round, roundTiesEven, sign, trunc, add, sub, mul, div, max, min}
 use Rattle.meaning.specs.Results.{Operation, point, convexHull, intersection, Result₁, Result₂}
-use Rattle.meaning.specs.Statement.{DecPair, Outcome, given, Answered₁, Answered₂, HullOf, RightDec₁, RightDec₂}
+use Rattle.meaning.specs.Statement.{DecPair, Outcome, Answered₁, Answered₂, HullOf, RightDec₁, RightDec₂}
 use Rattle.meaning.specs.Calls.{Test, Called}
 use Rattle.meaning.specs.Overlap.{OverlapNumber, DecoratedOverlap}
 use Rattle.meaning.specs.Bytes.{ByteOrder, bigEndian, readPair, writePair, writeDecorated, Written, JudgedBytes, JudgedDecBytes, ReadDecorated}

@@ -61,15 +61,6 @@ module _ (F : Format) {b : ℕ} (small : b < signBit F) where
   unfolding opposite
   opposite-negative = picks-second _ _ ∙ magnitude-negative
 
--- A pattern has one sign.
-pub one-sign : (F : Format) (b : ℕ) → (plus F b ≡ 0) ⊎ (minus F b ≡ 0)
-unfolding plus minus
-one-sign F b =
-    ⊎-elim
-    (λ big. inl (ap (λ (t : Bool). choose t (value (F .frac) (magnitude F b)) 0) (le-ltb b (signBit F) big)))
-    (λ small. inr (minus-positive F small))
-    (le-or-lt (signBit F) b)
-
 -- A fact about every pattern is shown of a magnitude, and of the sign bit and a magnitude.
 by-sign : (F : Format) (P : ℕ → Type 0)
     → ((m : ℕ) → m < signBit F → P m)

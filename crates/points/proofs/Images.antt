@@ -3,7 +3,7 @@ use Rattle.meaning.specs.Fraction.{Fraction, _≺_, negated, whole}
 use Rattle.meaning.specs.Sets.{End, at, unbounded, Set, span, under, underNone, Ordered, mirrorEnd, mirror}
 use Rattle.meaning.specs.Points.{Unary, sign, Makes₁}
 use Rattle.meaning.specs.Results.{Image₁, Result₁}
-use Rattle.meaning.specs.Supremum.{Supremum, Mirrored}
+use Rattle.meaning.specs.Supremum.{Mirrored}
 use Rattle.meaning.proofs.FractionLaws.{le-refl, lt-le-trans}
 use Rattle.meaning.proofs.SetLaws.{over-trans, upper-member, upper-beyond, mirror-ordered, member-mirror, mirror-member}
 use Rattle.points.specs.Functions.{Monotone, Mirrors, Keeps}
@@ -11,7 +11,7 @@ use Rattle.points.specs.Ends.{EndMakes, ofNumber, ofNone, signOfNone, Bo
 use Rattle.points.proofs.FloorLaws.{ceil-total}
 use Rattle.points.proofs.ZeroLaws.{sign-above, sign-most}
 use Rattle.points.proofs.PointLaws.{monotone, mirror-back, mirror-makes, whole-kept}
-use Rattle.points.proofs.Reached.{reaches, exceeds, Reached, reached-supremum, reached-same, reached-bounds}
+use Rattle.points.proofs.Reached.{reaches, exceeds, Reached, reached-same, reached-bounds}
 use Rattle.points.proofs.EndLaws.{under-number}
 
 -- A monotone function's results over a span come up to its result at the upper end.
@@ -21,10 +21,6 @@ image-reached {b = b} {s} rising h m = record {
   bound = λ r i. under (rising .rises (i .makes) m (under-number (i .inX .high)));
   reach = reaches s (record { x = b; inX = upper-member h; makes = m }) (le-refl s);
 }
-
-pub image-sup : {M : Fraction → Fraction → Type 0} {a : End} {b s : Fraction}
-    → Monotone M → Ordered a (at b) → M b s → Supremum (Image₁ M (span a (at b))) (at s)
-image-sup rising h m = reached-supremum (image-reached rising h m)
 
 -- A span with no upper end has a whole member above any number.
 whole-beyond : {op : Unary} → Keeps op → (a : End) (q : Fraction) → (r : Fraction) × Result₁ op (span a unbounded) r × (q ≺ r)

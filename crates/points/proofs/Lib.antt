@@ -13,6 +13,5 @@ pub mod Magnitudes
 pub mod Extremes
 pub mod Unions
 pub mod Naturals
-pub mod WholeNumbers
 pub mod Exactly
 pub mod Answers

@@ -2,26 +2,15 @@
 use mathlib.Core.Logic.{⊎-elim}
 use Rattle.meaning.specs.Fraction.{Fraction, negated, whole}
 use Rattle.meaning.specs.Sets.{End, at, span, Under, under, Ordered, mirrorEnd}
-use Rattle.meaning.specs.Points.{neg, abs}
+use Rattle.meaning.specs.Points.{abs}
 use Rattle.meaning.specs.Results.{Result₁}
 use Rattle.meaning.specs.Supremum.{Mirrored}
-use Rattle.meaning.proofs.FractionLaws.{le-refl, le-trans, le-or-le, eq-refl, eq-le, neg-le, neg-eq}
+use Rattle.meaning.proofs.FractionLaws.{le-refl, le-trans, le-or-le, eq-le, neg-le}
 use Rattle.meaning.proofs.SetLaws.{under-trans, over-mirror, mirror-ordered, mirror-member, upper-member, lower-member}
 use Rattle.points.specs.Ends.{Greater, LeastMagnitude, zeroBetween, lowerNearer, upperNearer, Bounds}
 use Rattle.points.proofs.ZeroLaws.{abs-mirror, abs-above, abs-total, abs-not-negative, abs-not-below}
 use Rattle.points.proofs.Reached.{Reaches, reaches, Reached, reach-through, span-reached, reached-bounds}
 use Rattle.points.proofs.EndLaws.{under-number, over-number, under-raise, greater-first, greater-second, greater-is}
-
-pub neg-bounds : {a b : End} → Ordered a b → Bounds (Result₁ neg (span a b)) (mirrorEnd a) b
-neg-bounds {a} {b} h = reached-bounds (record {
-  bound = λ r i. under-trans (mirrorEnd a) (eq-le (i .makes)) (over-mirror a (i .inX .low));
-  reach =
-      reach-through (λ y m. (y, record { x = negated y; inX = mirror-member (span a b) y m; makes = eq-refl y }, le-refl y))
-      (span-reached (mirror-ordered h) .reach);
-}) (record {
-  bound = λ r i. under-trans b (eq-le (neg-eq (i .makes))) (i .inX .high);
-  reach = reach-through (λ x m. (x, record { x = x; inX = m; makes = eq-refl (negated x) }, le-refl x)) (span-reached h .reach);
-})
 
 -- The results of abs come up to b, and to -a.
 module _ {a b : End} (h : Ordered a b) where

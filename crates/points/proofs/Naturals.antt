@@ -1,28 +1,13 @@
 -- Natural numbers as values of patterns: those up to 2 ^ frac are of the format, for any format.
-use mathlib.Core.Path.{_≡_, refl, sym, _∙_, ap, subst⁻¹}
+use mathlib.Core.Path.{_≡_, sym, _∙_, ap, subst⁻¹}
 use mathlib.Core.Logic.{_⊎_, inl, inr, ⊎-elim}
-use Prim.Native.Nat.{ℕ, zero, suc, _+_, _*_, _^_, _<_, _≤_}
-use native.Mathlib.Nat.{le-refl, lt-trans, le-dest, mul-le-mul-right, mul-le-mul-left, mul-lt-mul-of-pos-right, two-pow-succ}
+use Prim.Native.Nat.{ℕ, _+_, _*_, _^_, _<_, _≤_}
+use native.Mathlib.Nat.{le-refl, le-dest, mul-le-mul-right, mul-le-mul-left, mul-lt-mul-of-pos-right, two-pow-succ}
 use native.Mathlib.Omega.{arith}
 use lib.Pow.{pow-pos, pow-mono, pow-add}
-use Rattle.patterns.specs.Format.{Format, infinity, signBit}
+use Rattle.patterns.specs.Format.{Format, infinity}
 use Rattle.patterns.specs.Value.{value}
 use Rattle.patterns.proofs.ValueLaws.{le-or-lt, pow-next, packed, unpacks, value-unpacks, value-reflects}
-use Rattle.patterns.proofs.SignLaws.{infinity-below, plus-positive, minus-positive, finite-positive}
-use Rattle.meaning.specs.Fraction.{_≈_, whole}
-use Rattle.meaning.specs.Pairs.{worth}
-use Rattle.meaning.specs.Hull.{OfFormat}
-
--- A natural number up to 2 ^ (h + 1) is a value at every exponent.
-scaled-value : (h p n : ℕ) → n ≤ 2 ^ (h + 1) → (b : ℕ) × (value h b ≡ n * 2 ^ p)
-scaled-value h zero n s = (0 * 2 ^ h + n, packed h 0 n (inl refl) s)
-scaled-value h (suc p) n s =
-    ⊎-elim
-    (λ big. (suc p * 2 ^ h + n, packed h (suc p) n (inr big) s))
-    (λ small.
-    let (b, e) = scaled-value h p (n + n) (omega (arith, pow-next h)) in
-    (b, e ∙ omega (arith, ap (λ (t : ℕ). n * t) (two-pow-succ p))))
-    (le-or-lt (2 ^ h) n)
 
 shifted : (q p j k : ℕ) → p + j ≡ k → q * 2 ^ k ≡ q * 2 ^ j * 2 ^ p
 shifted q p j k e = ap (λ (i : ℕ). q * 2 ^ i) (sym e) ∙ rw (pow-add 2 p j) (omega arith)
@@ -60,19 +45,3 @@ below-infinity F n b e s =
           packed (F .frac) (F .point) (2 ^ F .frac) (inr (le-refl (2 ^ F .frac))) (omega (arith, pow-next (F .frac))),
           mul-le-mul-right (2 ^ F .point) s,
         )
-
-worth-natural : (F : Format) (n b : ℕ) → value (F .frac) b ≡ n * 2 ^ F .point → b < infinity F → whole n ≈ worth F b
-worth-natural F n b e f =
-    let small : b < signBit F = lt-trans f (infinity-below F) in
-    record { eq = omega (arith, plus-positive F small, minus-positive F small) }
-
-pattern-natural : (F : Format) (n b : ℕ) → value (F .frac) b ≡ n * 2 ^ F .point → n ≤ 2 ^ F .frac → OfFormat F (whole n)
-pattern-natural F n b e s =
-    let f : b < infinity F = below-infinity F n b e s in
-    record { pattern = b; isFinite = finite-positive F f; is = worth-natural F n b e f }
-
--- The natural numbers up to 2 ^ frac are of the format.
-pub natural-of-format : (F : Format) (n : ℕ) → n ≤ 2 ^ F .frac → OfFormat F (whole n)
-natural-of-format F n s =
-    let (b, e) = scaled-value (F .frac) (F .point) n (omega (arith, pow-next (F .frac))) in
-    pattern-natural F n b e s

@@ -1,27 +1,14 @@
 -- Overlap by keys: whole numbers in the place of ends, ordered as the ends are.
-use mathlib.Core.Path.{_≡_, sym, subst₂}
+use mathlib.Core.Path.{_≡_, subst₂}
 use Prim.Native.Nat.{ℕ, _<_}
-use native.Mathlib.Nat.{lt-irrefl, lt-trans}
-use native.Mathlib.Decide.{decLt}
 use native.Mathlib.Omega.{arith}
 use Rattle.meaning.specs.Overlap.{State, bothEmpty, firstEmpty, secondEmpty, before, meets, overlaps, starts, containedBy, finishes, equals, finishedBy, contains, startedBy, overlappedBy, metBy, after, Conditions}
-use Rattle.uniqueness.specs.Order.{Compared, less, same, more, Order, Keys}
+use Rattle.uniqueness.specs.Order.{Compared, less, same, more, Keys}
 
 compared : {m n : ℕ} → Dec (m < n) → Dec (n < m) → Compared _<_ _≡_ m n
 compared (yes h) k = less h
 compared (no h) (yes k) = more k
 compared (no h) (no k) = same (omega arith)
-
--- Whole numbers are a linear order.
-pub naturals : Order _<_ _≡_
-naturals = record {
-  irreflexive = lt-irrefl;
-  transitive = lt-trans;
-  symmetric = sym;
-  less-same = λ h k. omega arith;
-  same-less = λ h k. omega arith;
-  compared = λ m n. compared (decLt m n) (decLt n m);
-}
 
 -- A state of keys is the state of what they stand for.
 module _ {K A : Type 0} {ltᵏ eqᵏ : K → K → Type 0} {lt eq : A → A → Type 0} {Keyed : K → A → Type 0} (keys : Keys ltᵏ eqᵏ lt eq Keyed) where

@@ -88,7 +88,7 @@ pub fn if_both_known(x: Operand, y: Operand, reply: Said) -> Said {
         return refused(Refusal {
             number: Refusal::BAD_BYTE.number,
             place: SECOND,
-            index: 0,
+            index: Refusal::BAD_BYTE.index,
         });
     }
     reply

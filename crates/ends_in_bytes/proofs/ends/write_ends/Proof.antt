@@ -1,11 +1,9 @@
 -- `ends::write_ends` meets its contract: each end is written as its eight bytes, brought into order.
-use mathlib.Core.Path.{_≡_, _∙_, ap, ap₂}
+use mathlib.Core.Path.{_∙_, ap, ap₂}
 use mathlib.Core.List.{List, _++_}
 use Prim.Native.Nat.{ℕ}
 use borrow.Author.Needs.{needs}
-use lib.ListN.{length, drop}
-use Rattle.meaning.specs.Bytes.{inOrder}
-use Rattle.ends_in_bytes.specs.ByteOrderMeaning.{orderOf}
+use lib.ListN.{drop}
 use Rattle.ends_in_bytes.proofs.EightByteLaws.{placed-both}
 use Rattle.ends_in_bytes.proofs.ends.write_ends.Statement.{statement}
 use Rattle.ends_in_bytes.proofs.ends.write_ends.Tie as tie

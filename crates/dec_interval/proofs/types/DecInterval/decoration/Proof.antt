@@ -1,8 +1,7 @@
 -- `DecInterval::decoration` meets its contract: what is found wrong is refused, and a sound operand answered.
 use mathlib.Core.Path.{refl}
 use borrow.Author.Needs.{needs}
-use Rattle.patterns.specs.Format.{binary64}
-use Rattle.meaning.specs.Statement.{JudgedDecorated, right₁}
+use Rattle.meaning.specs.Statement.{right₁}
 use Rattle.interval.proofs.StatementLaws.{sound₁, refused₁}
 use Rattle.dec_interval.proofs.types.DecInterval.decoration.Statement.{statement}
 use Rattle.dec_interval.proofs.types.DecInterval.decoration.Tie as tie

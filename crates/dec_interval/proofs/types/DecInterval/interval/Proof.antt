@@ -2,7 +2,7 @@
 use mathlib.Core.Path.{subst⁻¹}
 use borrow.Author.Needs.{needs}
 use Rattle.patterns.specs.Format.{binary64}
-use Rattle.meaning.specs.Statement.{JudgedDecorated, right₁}
+use Rattle.meaning.specs.Statement.{right₁}
 use Rattle.meaning.specs.Bytes.{Tidied}
 use Rattle.dec_interval.specs.Values.{isPart, isMissing}
 use Rattle.truth.proofs.AnswerLaws.{said-yes, said-no}

@@ -1,7 +1,6 @@
 -- `DecInterval::is_nai` meets its contract: what is found wrong is refused, and a sound operand answered.
 use borrow.Author.Needs.{needs}
-use Rattle.patterns.specs.Format.{binary64}
-use Rattle.meaning.specs.Statement.{JudgedDecorated, right₁}
+use Rattle.meaning.specs.Statement.{right₁}
 use Rattle.interval.proofs.StatementLaws.{sound₁, refused₁}
 use Rattle.dec_interval.proofs.types.DecInterval.is_nai.Statement.{statement}
 use Rattle.dec_interval.proofs.types.DecInterval.is_nai.Tie as tie

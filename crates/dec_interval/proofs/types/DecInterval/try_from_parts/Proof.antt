@@ -1,7 +1,6 @@
 -- `DecInterval::try_from_parts` meets its contract: what is found wrong is refused, and a sound operand answered.
 use borrow.Author.Needs.{needs}
-use Rattle.patterns.specs.Format.{binary64}
-use Rattle.meaning.specs.Statement.{JudgedDecorated, right₁}
+use Rattle.meaning.specs.Statement.{right₁}
 use Rattle.interval.proofs.StatementLaws.{sound₁, refused₁}
 use Rattle.decorations.proofs.AgreeLaws.{sound-ends}
 use Rattle.dec_interval.proofs.types.DecInterval.try_from_parts.Statement.{statement}

@@ -1,7 +1,6 @@
 -- `Interval::classify` meets its contract: what is found wrong is refused, and a sound operand answered.
 use borrow.Author.Needs.{needs}
-use Rattle.patterns.specs.Format.{binary64}
-use Rattle.meaning.specs.Statement.{JudgedBare, right₁}
+use Rattle.meaning.specs.Statement.{right₁}
 use Rattle.interval.proofs.StatementLaws.{sound₁, refused₁, sound-bare}
 use Rattle.interval.proofs.types.Interval.classify.Statement.{statement}
 use Rattle.interval.proofs.types.Interval.classify.Tie as tie

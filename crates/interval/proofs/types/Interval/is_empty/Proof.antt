@@ -1,7 +1,7 @@
 -- `Interval::is_empty` meets its contract: what is found wrong is refused, and a sound operand answered.
 use borrow.Author.Needs.{needs}
 use Rattle.patterns.specs.Format.{binary64}
-use Rattle.meaning.specs.Statement.{JudgedBare, right₁}
+use Rattle.meaning.specs.Statement.{right₁}
 use Rattle.end_pairs.proofs.Shapes.{answers-nothing}
 use Rattle.interval.proofs.StatementLaws.{sound₁, refused₁, sound-bare}
 use Rattle.interval.proofs.types.Interval.is_empty.Statement.{statement}

@@ -1,8 +1,7 @@
 -- `Interval::sup` meets its contract: what is found wrong is refused, and a sound operand answered.
 use mathlib.Core.Path.{refl}
 use borrow.Author.Needs.{needs}
-use Rattle.patterns.specs.Format.{binary64}
-use Rattle.meaning.specs.Statement.{JudgedBare, right₁}
+use Rattle.meaning.specs.Statement.{right₁}
 use Rattle.interval.proofs.StatementLaws.{sound₁, refused₁, sound-bare}
 use Rattle.interval.proofs.types.Interval.sup.Statement.{statement}
 use Rattle.interval.proofs.types.Interval.sup.Tie as tie
