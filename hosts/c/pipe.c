@@ -20,16 +20,25 @@ static const Kind kinds[] = {
     {"decorated-le-to-be", muenglavot_decorated_le_to_be, MUENGLAVOT_DECORATED, MUENGLAVOT_DECORATED},
 };
 
+/* Inputs that are read at once: a call of stdio for each would take as long as the answers. */
+enum { BLOCK = 1024 };
+
 static int answer_all(const Kind *kind)
 {
-    uint8_t in[MUENGLAVOT_DECORATED_REQUEST], out[2 + MUENGLAVOT_DECORATED];
+    static uint8_t in[BLOCK * MUENGLAVOT_DECORATED_REQUEST], out[BLOCK * (2 + MUENGLAVOT_DECORATED)];
+    const size_t reply = 2 + kind->out;
+    size_t count;
 
-    while (fread(in, 1, kind->in, stdin) == kind->in) {
-        memset(out, 0, sizeof out);
-        uint32_t reply = kind->call(in, kind->in, out + 2, kind->out);
-        out[0] = (uint8_t)MUENGLAVOT_NUMBER(reply);
-        out[1] = (uint8_t)MUENGLAVOT_PLACE(reply);
-        if (fwrite(out, 1, 2 + kind->out, stdout) != 2 + kind->out) {
+    while ((count = fread(in, kind->in, BLOCK, stdin)) > 0) {
+        memset(out, 0, count * reply);
+        for (size_t i = 0; i < count; i++) {
+            uint8_t *to = out + i * reply;
+            uint32_t said = kind->call(in + i * kind->in, kind->in, to + 2, kind->out);
+
+            to[0] = (uint8_t)MUENGLAVOT_NUMBER(said);
+            to[1] = (uint8_t)MUENGLAVOT_PLACE(said);
+        }
+        if (fwrite(out, reply, count, stdout) != count) {
             return 1;
         }
     }
