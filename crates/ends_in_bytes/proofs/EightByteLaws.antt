@@ -1,4 +1,4 @@
--- Eight bytes taken from a place of a list, and put there.
+-- Eight bytes put at a position of a list, and the ends of a part.
 use mathlib.Core.Path.{_≡_, refl, sym, _∙_, ap, ap₂}
 use mathlib.Core.List.{List, [], _++_, append-assoc, append-nil}
 use Prim.Native.Nat.{ℕ, _+_, _-_, _≤_}
@@ -10,23 +10,7 @@ use borrow.Rule.Slice.PartMut.{putMid}
 use Rattle.meaning.specs.Pairs.{Pair}
 use Rattle.meaning.specs.Bytes.{ByteOrder, bigEndian, littleEndian, readEnd, readPair, writePair}
 
--- What is copied over a list of the same length replaces it.
-copied-over : (n : ℕ) (s d : List ℕ) → length s ≡ n → length d ≡ n → take n s ++ drop n d ≡ s
-copied-over n s d e f =
-    ap₂ _++_ (take-all n s (le-of-eq e)) (drop-of-length-le d {i = n} (le-of-eq f)) ∙ append-nil s
-
-pub copied-eight : (s d : List ℕ) (start : ℕ) → start + 8 ≤ length s → length d ≡ 8
-    → (l : List ℕ) → l ≡ take (start + 8 - start) (drop start s)
-    → take (length l) l ++ drop (length l) d ≡ take 8 (drop start s)
-copied-eight s d start fits eight l e =
-    ap (λ (n : ℕ). take n l ++ drop n d) long ∙ copied-over 8 l d long eight ∙ is-part
-  where
-    is-part : l ≡ take 8 (drop start s)
-    is-part = e ∙ ap (λ (n : ℕ). take n (drop start s)) {x = start + 8 - start} {y = 8} (omega arith)
-
-    long : length l ≡ 8
-    long = ap length is-part ∙ length-take-le 8 (drop start s) (omega (arith, length-drop start s))
-
+-- Eight bytes put at a position.
 pub placed-eight : (s d : List ℕ) (start : ℕ) → start + 8 ≤ length s → length d ≡ 8
     → (l : List ℕ) → l ≡ take (length d) d ++ drop (length d) (take (length s - start) (drop start s))
     → putMid start (length s - start) s l ≡ take start s ++ (d ++ drop (start + 8) s)

@@ -7,11 +7,7 @@ use native.Mathlib.Omega.{arith}
 use lib.ListN.{length, take, drop, set, drop-of-length-le}
 use lib.Seq.{take-all}
 use Rattle.meaning.specs.Requests.{zeros, writeState}
-
--- What is copied over a list of the same length replaces it.
-pub copied-over : (n : ℕ) (s d : List ℕ) → length s ≡ n → length d ≡ n → take n s ++ drop n d ≡ s
-copied-over n s d e f =
-    ap₂ _++_ (take-all n s (le-of-eq e)) (drop-of-length-le d {i = n} (le-of-eq f)) ∙ append-nil s
+use Rattle.ends_in_bytes.proofs.CopyLaws.{copied-over}
 
 -- Zero bytes, cut short.
 take-zeros : (n m : ℕ) → n ≤ m → take n (zeros m) ≡ zeros n

@@ -1,6 +1,7 @@
 // Operands by value, made of a record's bytes and not judged.
+ghost use mathlib.Core.Path.{_≡_};
 ghost use Prim.Native.Nat.{_+_, _≤_};
-ghost use lib.ListN.{length};
+ghost use lib.ListN.{length, take, drop};
 use dec_interval::DecInterval;
 use decorations::Decoration;
 use end_pairs::EndPair;
@@ -26,6 +27,7 @@ pub(crate) fn ends_of(bytes: [u8; DECORATED]) -> EndPair {
 // The operand that starts at a position of a record.
 pub fn operand_at(input: &[u8], start: usize) -> [u8; DECORATED]
     requires { ⌜ start + 17 ≤ length (now input) ⌝ }
+    ensures { λ r. ⌜ r ≡ take 17 (drop start (now (input .entry))) ⌝ }
 {
     let mut operand = [0u8; DECORATED];
     let end = start + DECORATED;

@@ -8,7 +8,7 @@ use lib.ListN.{length}
 use Rattle.patterns.specs.Format.{binary64}
 use Rattle.meaning.specs.Requests.{zeros, decoratedSize}
 use Rattle.request_laws.proofs.SmallLaws.{decorated-request-small}
-use Rattle.lent_calls.proofs.StateByteLaws.{copied-over}
+use Rattle.ends_in_bytes.proofs.CopyLaws.{copied-over}
 use Rattle.bench_turn.proofs.chunk.reply.Statement.{statement}
 use Rattle.bench_turn.proofs.chunk.reply.Tie as tie
 
