@@ -67,8 +67,21 @@ fn subnormal(r: &mut Random) -> (u64, u64) {
     (one(r), one(r))
 }
 
-pub const KINDS: [(&str, Pair); 3] = [
+/// Of unlike signs, and the same but for at most some of the last digits, which alone are left in the sum.
+fn cancelling(r: &mut Random) -> (u64, u64) {
+    let first = r.finite();
+    let digits = 1 + r.below(FRACTION as u64);
+    let apart = r.bits() >> (64 - digits);
+    (first, first ^ apart ^ SIGN)
+}
+
+pub type Kind = (&'static str, Pair);
+
+pub const KINDS: [Kind; 3] = [
     ("near exponents", near),
     ("all exponents", all),
     ("subnormal", subnormal),
 ];
+
+/// For sums there is one kind more.
+pub const KINDS_OF_SUMS: [Kind; 4] = [KINDS[0], KINDS[1], KINDS[2], ("cancelling", cancelling)];

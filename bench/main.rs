@@ -3,7 +3,7 @@ mod inputs;
 mod plain;
 mod words;
 
-use inputs::{Pair, Random, KINDS};
+use inputs::{Kind, Pair, Random, KINDS, KINDS_OF_SUMS};
 use std::time::Instant;
 
 /// Rows of a column. They are timed in blocks, short enough that some round is not interrupted.
@@ -51,6 +51,7 @@ type Columns = fn(&[u64], &[u64], &mut [u64]);
 
 struct Operation {
     name: &'static str,
+    kinds: &'static [Kind],
     plain: Columns,
     words: Columns,
     proved: Exported,
@@ -59,18 +60,21 @@ struct Operation {
 const OPERATIONS: [Operation; 3] = [
     Operation {
         name: "sums",
+        kinds: &KINDS_OF_SUMS,
         plain: |a, b, out| fill(plain::add_ru, a, b, out),
         words: |a, b, out| fill(words::add_ru, a, b, out),
         proved: rounding_exports_sums,
     },
     Operation {
         name: "products",
+        kinds: &KINDS,
         plain: |a, b, out| fill(plain::mul_ru, a, b, out),
         words: |a, b, out| fill(words::mul_ru, a, b, out),
         proved: rounding_exports_products,
     },
     Operation {
         name: "quotients",
+        kinds: &KINDS,
         plain: |a, b, out| fill(plain::div_ru, a, b, out),
         words: |a, b, out| fill(words::div_ru, a, b, out),
         proved: rounding_exports_quotients,
@@ -154,11 +158,11 @@ fn main() {
     );
     for operation in &OPERATIONS {
         let mut together = [0.0; 3];
-        for (kind, pair) in KINDS {
+        for &(kind, pair) in operation.kinds {
             let times = measure(operation, pair);
             report(operation.name, kind, times);
             for (mean, one) in together.iter_mut().zip(times) {
-                *mean += one / KINDS.len() as f64;
+                *mean += one / operation.kinds.len() as f64;
             }
         }
         report(operation.name, "all of these", together);

@@ -1,47 +1,38 @@
 -- Significands that are shifted left until they have all digits, or as far as their exponents go.
-use mathlib.Core.Logic.{_↔_, inl, inr}
-use mathlib.Core.Path.{_≡_, refl, sym, _∙_, ap, subst}
-use Prim.Native.Nat.{ℕ, zero, suc, zero-le, _-_, _*_, _%_, _^_, _<_, _≤_}
-use native.Mathlib.Nat.{le-refl, le-trans, lt-irrefl, lt-of-le-of-lt, lt-of-lt-of-le, lt-of-mul-lt-mul-right, lt-of-not-le, mod-eq-of-lt, mul-le-mul-right, mul-lt-mul-of-pos-right, mul-one, pow-suc}
+use mathlib.Core.Logic.{_⊎_, inl, inr, ⊎-elim}
+use mathlib.Core.Path.{_≡_, sym, _∙_, ap, subst}
+use Prim.Native.Nat.{ℕ, _+_, _-_, _*_, _%_, _^_, _<_, _≤_}
+use native.Mathlib.Nat.{lt-of-le-of-lt, lt-of-lt-of-le, mod-eq-of-lt, mul-assoc, mul-le-mul-left, mul-one}
 use native.Mathlib.Omega.{arith}
-use lib.Pow.{pow-add, pow-mono, pow-pos}
-use Rattle.patterns.proofs.ValueLaws.{pow-next}
-use Rattle.packing.specs.Magnitude.{Normalised}
+use lib.Pow.{pow-add, pow-mono}
+use Rattle.packing.specs.Digits.{Missing}
+use Rattle.packing.specs.Magnitude.{Raises}
 
--- Not 0, at an exponent as high as the digits are many, they are worth enough.
-pub worth-enough : (frac e m : ℕ) → 0 < m → frac ≤ e → 2 ^ frac ≤ m * 2 ^ e
-worth-enough frac e m some high = le-trans (pow-mono high) (omega (arith, mul-le-mul-right {m = 1} (2 ^ e) some))
+-- What the significand gains, the exponent loses.
+same-worth : (m e k : ℕ) → k ≤ e → m * 2 ^ k * 2 ^ (e - k) ≡ m * 2 ^ e
+same-worth m e k within =
+    mul-assoc m (2 ^ k) (2 ^ (e - k)) ∙ ap (λ (j : ℕ). m * j) (sym (pow-add 2 k (e - k)) ∙ ap (λ (j : ℕ). 2 ^ j) (omega arith))
 
-pub exponent-low : (frac e m : ℕ) → 0 < m → m * 2 ^ e < 2 ^ frac → e < frac
-exponent-low frac e m some less = lt-of-not-le (λ high. lt-irrefl (2 ^ frac) (lt-of-le-of-lt (worth-enough frac e m some high) less))
+-- A shift as far as digits are missing, or as far as the exponent goes where that is less.
+pub raises : {frac m e s : ℕ} (k : ℕ) → frac ≤ 52 → Missing frac m s → k ≤ s → k ≤ e → (k ≡ s) ⊎ (k ≡ e) → Raises frac m e k
+raises {frac} {m} {e} {s} k narrow missing some within far = record {
+  small = omega (arith, missing .few);
+  within = within;
+  normalised = record {
+    worth = same-worth m e k within;
+    fine = ⊎-elim (λ all. inr (subst (λ (j : ℕ). 2 ^ frac ≤ m * 2 ^ j) (sym all) (missing .full))) (λ spent. inl (omega arith)) far;
+    lowered = record { lower = omega arith; short = ⊎-elim (λ none. inl (omega arith)) (λ few. inr (lt-of-le-of-lt (mul-le-mul-left m (pow-mono some)) few)) (missing .short) };
+  };
+}
 
--- At a lower exponent, they are worth too little exactly if they are short of a power of two.
-pub worth-little : (frac e m : ℕ) → e < frac → (m < 2 ^ (frac - e)) ↔ (m * 2 ^ e < 2 ^ frac)
-worth-little frac e m low = (
-  λ less. subst (λ (k : ℕ). m * 2 ^ e < k) whole (mul-lt-mul-of-pos-right less (pow-pos e)),
-  λ less. lt-of-mul-lt-mul-right (2 ^ e) (subst (λ (k : ℕ). m * 2 ^ e < k) (sym whole) less),
-)
+-- A significand that was shifted has no digit too many, so that it stays in the word.
+pub stays : {frac m e k : ℕ} → frac ≤ 52 → m < 2 ^ 64 → Raises frac m e k → (m * 2 ^ k) % 2 ^ 64 ≡ m * 2 ^ k
+stays {frac} {m} {e} {k} narrow word raised = mod-eq-of-lt (⊎-elim unshifted shifted (raised .normalised .lowered .short))
   where
-    whole : 2 ^ (frac - e) * 2 ^ e ≡ 2 ^ frac
-    whole = sym (pow-add 2 (frac - e) e) ∙ ap (λ (k : ℕ). 2 ^ k) (omega arith)
+    unshifted : e - k ≡ e → m * 2 ^ k < 2 ^ 64
+    unshifted none =
+        let within = raised .within in
+        subst (λ (j : ℕ). m * 2 ^ j < 2 ^ 64) {x = 0} (omega arith) (subst (λ (j : ℕ). j < 2 ^ 64) (sym (mul-one m)) word)
 
--- One digit more to the significand is one less to the exponent.
-pub step : (m e : ℕ) → 0 < e → m * 2 * 2 ^ (e - 1) ≡ m * 2 ^ e
-step m e some =
-    let twice : 2 ^ e ≡ 2 ^ (e - 1) * 2 = ap (λ (k : ℕ). 2 ^ k) (omega arith) ∙ pow-suc 2 (e - 1) in
-    omega (arith, ap (λ (k : ℕ). m * k) twice)
-
--- A significand that lacks digits, and is worth enough, has an exponent left to lower.
-pub lasts : (frac m e : ℕ) → 2 ^ frac ≤ m * 2 ^ e → m < 2 ^ frac → 0 < e
-lasts frac m zero enough short = omega arith
-lasts frac m (suc e) enough short = omega arith
-
-pub already : {frac m e : ℕ} → 2 ^ frac ≤ m → Normalised frac m e m e
-already {e = e} full = record { worth = refl; fine = inr full; lowered = record { lower = le-refl e; short = inl refl } }
-
--- The whole exponent is spent, and the significand is still short.
-pub spent : {frac m e : ℕ} → frac ≤ 52 → m * 2 ^ e < 2 ^ frac → Normalised frac m e ((m * 2 ^ e) % 2 ^ 64) 0
-spent {frac} {m} {e} narrow less =
-    let shifts : (m * 2 ^ e) % 2 ^ 64 ≡ m * 2 ^ e = mod-eq-of-lt (lt-of-lt-of-le less (pow-mono {j = 64} (omega arith))) in
-    subst (λ (m′ : ℕ). Normalised frac m e m′ 0) (sym shifts)
-    (record { worth = mul-one (m * 2 ^ e); fine = inl refl; lowered = record { lower = zero-le; short = inr (omega (arith, pow-next frac)) } })
+    shifted : m * 2 ^ k < 2 ^ (frac + 1) → m * 2 ^ k < 2 ^ 64
+    shifted short = lt-of-lt-of-le short (pow-mono {j = 64} (omega arith))

@@ -1,5 +1,5 @@
 -- The significand and the exponent of a pattern, from its exponent field.
-use mathlib.Core.Path.{_≡_, refl, sym, _∙_, ap}
+use mathlib.Core.Path.{_≡_, refl, _∙_, ap}
 use mathlib.Core.Logic.{_⊎_, inl, inr}
 use Prim.Native.Nat.{ℕ, _+_, _*_, _/_, _^_, _<_, _≤_}
 use native.Mathlib.Nat.{le-of-lt, mod-lt}
@@ -24,10 +24,11 @@ unpacks-subnormal frac b none =
     let high : b / 2 ^ frac * 2 ^ frac ≡ 0 = ap (λ (e : ℕ). e * 2 ^ frac) none ∙ omega arith in
     unpacks-packed frac b b 0 (omega arith) (inl refl) (omega (arith, split b frac, mod-lt b (pow-pos frac), pow-next frac))
 
-pub unpacks-normal : (frac b significand exponent : ℕ) → b / 2 ^ frac ≡ exponent + 1 → exponent * 2 ^ frac + significand ≡ b
-    → Unpacks frac b significand exponent
-unpacks-normal frac b significand exponent field pattern =
+-- A normal number has its first digit in front of the fraction.
+pub unpacks-normal : (frac b fraction exponent : ℕ) → b / 2 ^ frac ≡ exponent + 1 → b / 2 ^ frac * 2 ^ frac + fraction ≡ b
+    → Unpacks frac b (2 ^ frac + fraction) exponent
+unpacks-normal frac b fraction exponent field pattern =
     let high : b / 2 ^ frac * 2 ^ frac ≡ (exponent + 1) * 2 ^ frac = ap (λ (e : ℕ). e * 2 ^ frac) field in
-    unpacks-packed frac b significand exponent (sym pattern)
-    (inr (omega (arith, split b frac)))
+    unpacks-packed frac b (2 ^ frac + fraction) exponent (omega arith)
+    (inr (omega arith))
     (omega (arith, split b frac, mod-lt b (pow-pos frac), pow-next frac))

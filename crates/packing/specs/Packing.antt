@@ -1,8 +1,7 @@
 -- What packing promises, for any format of a given width of fraction and a given exponent field of infinity.
 use mathlib.Core.Bool.{Bool}
 use mathlib.Core.Path.{_≡_}
-use mathlib.Core.Logic.{_⊎_}
-use Prim.Native.Nat.{ℕ, _+_, _/_, _^_, _<_, _≤_}
+use Prim.Native.Nat.{ℕ, _+_, _^_, _<_, _≤_}
 use Rattle.patterns.specs.Format.{Format}
 use Rattle.patterns.specs.Rounding.{RoundsUp, RoundsDown}
 use Rattle.packing.specs.Bracket.{Brackets, Rebrackets, FineEnough}
@@ -26,12 +25,6 @@ abbrev pub PacksDown : (frac codes significand exponent : ℕ) (exact : Bool) (r
 PacksDown frac codes significand exponent exact r =
     (F : Format) → F .frac ≡ frac → F .codes ≡ codes
     → (n d : ℕ) → 0 < d → Brackets n d significand exponent exact → RoundsDown F n d r
-
--- A shift that leaves at most frac + 1 digits of m, and all of frac + 1 if it drops any.
-pub record Excess (frac m shift : ℕ) : Type 0 where
-  pub small : shift < 64
-  pub short : m / 2 ^ shift < 2 ^ (frac + 1)
-  pub full : (shift ≡ 0) ⊎ (2 ^ frac ≤ m / 2 ^ shift)
 
 -- The second bracket holds what the first does, in at most frac + 1 digits.
 pub record Fitted (frac m e : ℕ) (x : Bool) (m′ e′ : ℕ) (x′ : Bool) : Type 0 where

@@ -2,29 +2,16 @@
 ghost use mathlib.Core.Path.{_≡_};
 ghost use Prim.Native.Nat.{min, _+_, _-_, _*_, _^_, _<_, _≤_};
 ghost use Rattle.packing.specs.Bracket.{FineEnough};
-ghost use Rattle.packing.specs.Packing.{Packable, PacksUp, PacksDown, Excess, Fitted};
-use crate::WORD;
+ghost use Rattle.packing.specs.Packing.{Packable, PacksUp, PacksDown, Fitted};
 use crate::bracket::Approx;
 use crate::bracket::cut;
+use crate::digits::excess;
 
 // How far below infinity's pattern an answer stops that may be infinity.
 const AT_INFINITY: u64 = 0;
 
 // How far below it an answer stops that is finite.
 const AT_LARGEST: u64 = 1;
-
-// How many digits of `significand` are more than a format with `frac` bits of fraction holds.
-fn excess(frac: u32, significand: u64) -> u32
-    requires { ⌜ frac ≤ 52 ⌝ }
-    ensures { λ r. ⌜ Excess frac significand r ⌝ }
-{
-    let zeros = u64::leading_zeros(significand);
-    let room = WORD - (frac + 1);
-    if zeros < room {
-        return room - zeros;
-    }
-    0
-}
 
 // The value cut to the digits that a format with `frac` bits of fraction holds.
 fn fitted(frac: u32, a: Approx) -> Approx

@@ -6,7 +6,7 @@ use native.Mathlib.Nat.{div-one}
 use native.Mathlib.Omega.{arith}
 use borrow.Author.Needs.{needs}
 use Rattle.packing.specs.Bracket.{FineEnough}
-use Rattle.packing.specs.Packing.{Excess}
+use Rattle.packing.specs.Digits.{Excess}
 use Rattle.packing.proofs.pack.fitted.Statement.{statement}
 use Rattle.packing.proofs.pack.fitted.Tie as tie
 
