@@ -1,12 +1,11 @@
--- Digits too many and too few, by how many there are. There is one answer to either.
+-- Digits too many and too few, by how many there are.
 use mathlib.Core.Path.{_≡_, refl, sym, _∙_, ap, subst}
-use mathlib.Core.Logic.{inl, inr, ⊎-elim}
-use Prim.Native.Nat.{ℕ, zero-le, _+_, _-_, _*_, _/_, _^_, _<_, _≤_}
-use native.Mathlib.Nat.{div-le-self, div-lt-iff-lt-mul, le-div-iff-mul-le, le-trans, lt-irrefl, lt-of-le-of-lt, lt-of-lt-of-le, lt-of-not-le, mul-le-mul-left, mul-le-mul-right, mul-one, pow-suc}
+use mathlib.Core.Logic.{inl, inr}
+use Prim.Native.Nat.{ℕ, zero-le, _+_, _-_, _*_, _^_, _<_, _≤_}
+use native.Mathlib.Nat.{div-le-self, le-div-iff-mul-le, le-trans, lt-irrefl, lt-of-le-of-lt, lt-of-lt-of-le, lt-of-not-le, mul-le-mul-right, mul-one, pow-suc}
 use native.Mathlib.Omega.{arith}
 use lib.Count.{leadingZeros, leading-length}
 use lib.Pow.{pow-add, pow-mono, pow-pos, shl-lt, shr-lt}
-use Rattle.patterns.proofs.ValueLaws.{pow-next}
 use Rattle.packing.specs.Digits.{Excess, Missing}
 
 -- m has k binary digits, the first of which is not 0; 0 has none.
@@ -59,29 +58,3 @@ module _ {frac m k : ℕ} (digits : Digits m k) where
     full = le-trans (pow-mono {i = frac} (omega arith)) (subst (λ (j : ℕ). 2 ^ (k - 1) ≤ j) (sym (mul-one m)) (digits .first (omega arith)));
     short = inl refl;
   }
-
--- Of two shifts that leave all digits, the greater drops one.
-excess-least : {frac m s s′ : ℕ} → Excess frac m s → Excess frac m s′ → s < s′ → ⊥
-excess-least {frac} {m} {s} {s′} h k less = ⊎-elim (λ none. omega arith) (λ full. lt-irrefl (2 ^ frac) (lt-of-le-of-lt full dropped)) (k .full)
-  where
-    below : m < 2 ^ (frac + 1 + s)
-    below = subst (λ (j : ℕ). m < j) (sym (pow-add 2 (frac + 1) s)) (div-lt-iff-lt-mul (pow-pos s) .0 (h .short))
-
-    dropped : m / 2 ^ s′ < 2 ^ frac
-    dropped = shr-lt frac s′ (lt-of-lt-of-le below (pow-mono (omega arith)))
-
-pub excess-once : {frac m s s′ : ℕ} → Excess frac m s → Excess frac m s′ → s ≡ s′
-excess-once h k = omega (arith, excess-least h k, excess-least k h)
-
--- Of two shifts that give all digits, the greater adds one too many.
-missing-least : {frac m s s′ : ℕ} → Missing frac m s → Missing frac m s′ → s < s′ → ⊥
-missing-least {frac} {m} {s} {s′} h k less = ⊎-elim (λ none. omega arith) (λ short. lt-irrefl (2 ^ (frac + 1)) (lt-of-le-of-lt added short)) (k .short)
-  where
-    added : 2 ^ (frac + 1) ≤ m * 2 ^ s′
-    added =
-        let full = h .full in
-        let one-more : 2 ^ (frac + 1) ≤ m * 2 ^ (s + 1) = omega (arith, pow-next frac, ap (λ (j : ℕ). m * j) (pow-next s)) in
-        le-trans one-more (mul-le-mul-left m (pow-mono (omega arith)))
-
-pub missing-once : {frac m s s′ : ℕ} → Missing frac m s → Missing frac m s′ → s ≡ s′
-missing-once h k = omega (arith, missing-least h k, missing-least k h)

@@ -7,3 +7,4 @@ pub mod UnpackLaws
 pub mod NormalLaws
 pub mod BracketLaws
 pub mod OneBracket
+pub mod OneShift

@@ -1,6 +1,6 @@
--- What is cut, normalised and packed has one answer: a value has one bracket at an exponent, and one that is as fine as it has to be.
+-- What is taken apart, cut, normalised and packed has one answer: a value has one bracket at an exponent, and one that is as fine as it has to be.
 use mathlib.Core.Bool.{Bool, true, false, false≢true}
-use mathlib.Core.Logic.{_↔_, ⊎-elim}
+use mathlib.Core.Logic.{_↔_, inr, ⊎-elim}
 use mathlib.Core.Path.{_≡_, refl, sym, _∙_, ap, subst}
 use Prim.Native.Nat.{ℕ, _+_, _*_, _^_, _<_, _≤_}
 use native.Mathlib.Nat.{le-antisymm, le-trans, lt-irrefl, lt-of-mul-lt-mul-right, mul-le-mul-left, mul-le-mul-right, mul-one}
@@ -11,7 +11,7 @@ use Rattle.patterns.specs.Format.{Format}
 use Rattle.patterns.proofs.UpLaws.{roundsUp-unique, roundsDown-unique}
 use Rattle.patterns.proofs.ValueLaws.{pow-next}
 use Rattle.packing.specs.Bracket.{Brackets, FineEnough, Lowered}
-use Rattle.packing.specs.Magnitude.{Normalised}
+use Rattle.packing.specs.Magnitude.{Normalised, Unpacks}
 use Rattle.packing.specs.Packing.{Packable, PacksUp, PacksDown}
 use Rattle.packing.proofs.BracketLaws.{exact-brackets}
 
@@ -58,12 +58,22 @@ module _ {n d : ℕ} (some : 0 < d) where
         let once = brackets-once b (subst (λ (k : ℕ). Brackets n d m′ k x′) (sym same) b′) in
         (same, once .0, once .1)
 
-pub normalised-once : {frac m e m′ e′ m″ e″ : ℕ} → Normalised frac m e m′ e′ → Normalised frac m e m″ e″ → (e′ ≡ e″) × (m′ ≡ m″)
-normalised-once {frac} {m} {e} {m′} {e′} {m″} {e″} h k =
-    let b = exact-brackets (m * 2 ^ e) 1 m′ e′ {x = true} (lit< tt) refl (mul-one (m′ * 2 ^ e′) ∙ h .worth) in
-    let b′ = exact-brackets (m * 2 ^ e) 1 m″ e″ {x = true} (lit< tt) refl (mul-one (m″ * 2 ^ e″) ∙ k .worth) in
-    let once = fine-once (lit< tt) (h .lowered) (k .lowered) (h .fine) (k .fine) b b′ in
+-- An exact value at any such exponent.
+exact-once : {frac start v m m′ e e′ : ℕ} → m * 2 ^ e ≡ v → m′ * 2 ^ e′ ≡ v → Lowered frac start m e → Lowered frac start m′ e′
+    → FineEnough frac m e → FineEnough frac m′ e′ → (e ≡ e′) × (m ≡ m′)
+exact-once {v = v} {m} {m′} {e} {e′} is is′ lowered lowered′ fine fine′ =
+    let b = exact-brackets v 1 m e {x = true} (lit< tt) refl (mul-one (m * 2 ^ e) ∙ is) in
+    let b′ = exact-brackets v 1 m′ e′ {x = true} (lit< tt) refl (mul-one (m′ * 2 ^ e′) ∙ is′) in
+    let once = fine-once (lit< tt) lowered lowered′ fine fine′ b b′ in
     (once .0, once .1)
+
+pub normalised-once : {frac m e m′ e′ m″ e″ : ℕ} → Normalised frac m e m′ e′ → Normalised frac m e m″ e″ → (e′ ≡ e″) × (m′ ≡ m″)
+normalised-once h k = exact-once (h .worth) (k .worth) (h .lowered) (k .lowered) (h .fine) (k .fine)
+
+pub unpacks-once : {frac b m m′ e e′ : ℕ} → Unpacks frac b m e → Unpacks frac b m′ e′ → (e ≡ e′) × (m ≡ m′)
+unpacks-once {e = e} {e′} h k =
+    exact-once {start = e + e′} (sym (h .worth)) (sym (k .worth)) (record { lower = omega arith; short = inr (h .short) })
+    (record { lower = omega arith; short = inr (k .short) }) (h .fine) (k .fine)
 
 -- Every bracket holds a value, and every width is one of a format.
 record Bracketed (m e : ℕ) (x : Bool) : Type 0 where
