@@ -14,12 +14,19 @@
  *   neg and 10 to 16 have one operand: the second is not read. overlap answers the number of its state, 0 BothEmpty to
  *   15 After (16 if an operand is NaI), and then zero bytes.
  *
+ * EXACT ENDS
+ *   A bare request for one of the operations 1 to 5 can also be answered by 18 bytes: the answer's 16, then one byte for the
+ *   lower end and one for the upper end, 1 if that end is exact and 0 if it is not.
+ *   An end is exact if it is the true bound of all results, attained or not: the lower end 0 of [1, 1] / [1, +inf] is
+ *   exact, and neither end of [1, 1] / [3, 3] is. An infinite end is exact only if the results are unbounded there, so that
+ *   the +inf of a sum which is finite, and beyond all doubles, is not. Both ends of EMPTY are exact.
+ *
  * WHAT A CALL RETURNS
  *   The number of the outcome plus 256 times the place of the operand that is wrong.
  *   0  accepted: the answer fills the output
  *   1  the input's length is not the one that the call has
  *   2  the output's length is not exactly that of the answer
- *   3  the operation number is not 1 to 17
+ *   3  the operation number is not 1 to 17, or not 1 to 5 where exact ends are asked for
  *   4  the decoration's byte is not 0, 4, 8, 12 or 16
  *   5  the ends are those of no interval: not in order, a wrong infinity, a wrong zero, or a NaN
  *   6  the decoration does not go with the ends: Ill on an interval, Com with an infinite end, EMPTY without Trv, two NaNs
@@ -45,14 +52,19 @@ extern "C" {
 #define MUENGLAVOT_NUMBER(reply) ((reply) % 256u)
 #define MUENGLAVOT_PLACE(reply) ((reply) / 256u)
 
-/* Lengths of an interval, and of a request, in bytes. */
+/* Lengths of an interval, of a bare one with its exact ends, and of a request, in bytes. */
 #define MUENGLAVOT_BARE 16u
+#define MUENGLAVOT_BARE_EXACT 18u
 #define MUENGLAVOT_DECORATED 17u
 #define MUENGLAVOT_BARE_REQUEST 33u
 #define MUENGLAVOT_DECORATED_REQUEST 35u
 
 /* Answers a bare request: 33 bytes in, 16 out. Numbers 0, 1, 2, 3 and 5. */
 uint32_t muenglavot_request_bare(const uint8_t *in, size_t in_len, uint8_t *out, size_t out_len);
+
+/* Answers a bare request for neg, add, sub, mul or div, and says which ends are exact: 33 bytes in, 18 out. Numbers 0, 1, 2,
+ * 3 and 5, and 3 is for an operation other than 1 to 5. */
+uint32_t muenglavot_request_bare_exact(const uint8_t *in, size_t in_len, uint8_t *out, size_t out_len);
 
 /* Answers a decorated request: 35 bytes in, 17 out. Numbers 0 to 6. */
 uint32_t muenglavot_request_decorated(const uint8_t *in, size_t in_len, uint8_t *out, size_t out_len);

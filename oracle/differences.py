@@ -54,6 +54,13 @@ NOT_IN_THE_CRATE = frozenset((
     'DecInterval::NAI'))
 
 
+def reports_exact_ends(form, request, number, place):
+    return not number and form.name(request) in EXACT
+
+
+EXACT = frozenset(('neg_exact', 'add_exact', 'sub_exact', 'mul_exact', 'div_exact'))
+
+
 # What is answered there. That our number and place are right is known by then.
 
 def crate_has_no_number(form, request, ours, theirs):
@@ -78,6 +85,10 @@ def ours_by_the_document(form, request, ours, theirs):
     return ours == form.answer(request) and theirs == bytes((NOT_ASKED, 0)) + bytes(len(ours) - 2)
 
 
+def crate_says_the_interval(form, request, ours, theirs):
+    return ours == form.answer(request) and theirs == ours[:-1] + bytes(1)
+
+
 # The first that applies decides: where one does, equal answers are wrong too.
 DIFFERENCES = {
     'operation number': (unknown_operation, crate_has_no_number),
@@ -86,6 +97,7 @@ DIFFERENCES = {
     'trunc at a zero end': (trunc_to_zero, ours_dac_theirs_com),
     "try_from of EMPTY's ends": (try_from_empty_ends, ours_empty_theirs_unread),
     'not in the crate': (not_in_the_crate, ours_by_the_document),
+    'exact ends': (reports_exact_ends, crate_says_the_interval),
 }
 
 

@@ -19,7 +19,7 @@ from differences import judge
 from forms import FORMS
 from muenglavot_reference import values
 from muenglavot_reference.document import (
-    ENDS, NUMBER, ONE_OPERAND, TOO_SHORT, operands, proper, refusal, refused)
+    ENDS, NUMBER, TOO_SHORT, operands_read, proper, refusal, refused)
 
 SEED = 1788
 DRAWN = 200_000
@@ -43,9 +43,8 @@ def request_situation(request, answer):
         return number
     if number:
         return operation, number, place
-    given = operands(request)[:1 if operation in ONE_OPERAND else 2]
     told = answer[2] if operation == NUMBER['overlap'] else answer[-1]
-    return operation, told, *map(sort_of, given)
+    return operation, told, *map(sort_of, operands_read(request))
 
 
 def record_situation(record, answer):

@@ -30,6 +30,8 @@ def joined(a, b):
 class Generator:
     """Requests of one kind, drawn with one seed."""
 
+    # The operations that they go round.
+    numbers = tuple(NUMBER.values())
     # How many operands get ends that are rare, or that are refused.
     odd_share = 0.09
 
@@ -111,7 +113,7 @@ class Generator:
 
     def requests(self, count):
         for index in range(count):
-            request = self.request(index % 17 + 1)
+            request = self.request(self.numbers[index % len(self.numbers)])
             yield self.spoilt(request) if self.random() < 0.04 else request
 
 

@@ -3,6 +3,7 @@
 
 #include "muenglavot.h"
 
+#include <float.h>
 #include <stdio.h>
 #include <stdlib.h>
 #include <string.h>
@@ -145,6 +146,87 @@ static void bare_requests(void)
     run(muenglavot_request_bare, request, sizeof request, sizeof answer, 0, answer, "overlap");
 }
 
+/* The operations whose exact ends can be asked for. */
+enum { NEG = 1, ADD, SUB, MUL, DIV };
+
+/* A request for an answer with its exact ends, and that answer: its ends, and which of them are exact. */
+typedef struct {
+    const char *what;
+    uint8_t operation;
+    double first[2], second[2], ends[2];
+    uint8_t lower_exact, upper_exact;
+} Exact;
+
+static void exact_answers(void)
+{
+    const double inf = 1.0 / 0.0, third = 0x1.5555555555555p-2, above_third = 0x1.5555555555556p-2;
+    const Exact cases[] = {
+        {"exact negation, second not read", NEG, {1, 2}, {inf, inf}, {-2, -1}, 1, 1},
+        {"exact sum", ADD, {1, 2}, {3, 4}, {4, 6}, 1, 1},
+        {"a sum with more digits", ADD, {1, 2}, {0x1p-60, 0x1p-60}, {1, 2 + 0x1p-51}, 0, 0},
+        {"a sum beyond all doubles", ADD, {DBL_MAX, DBL_MAX}, {DBL_MAX, DBL_MAX}, {DBL_MAX, inf}, 0, 0},
+        {"a sum without a bound", ADD, {1, inf}, {1, 2}, {2, inf}, 1, 1},
+        {"a sum with EMPTY", ADD, {inf, -inf}, {1, 2}, {inf, -inf}, 1, 1},
+        {"exact difference", SUB, {1, 1}, {3, 4}, {-3, -2}, 1, 1},
+        {"a difference beyond all doubles", SUB, {-DBL_MAX, -1}, {1, DBL_MAX}, {-inf, -2}, 0, 1},
+        {"zero times ENTIRE", MUL, {-0.0, 0.0}, {-inf, inf}, {-0.0, 0.0}, 1, 1},
+        {"a product below all doubles", MUL, {0x1p-1074, 0x1p-1074}, {0x1p-1074, 0x1p-1074}, {-0.0, 0x1p-1074}, 0, 0},
+        {"an exact product above one that rounds to it", MUL, {-1, 1 + 0x1p-52}, {-2, 2 - 0x1p-51}, {-2 - 0x1p-51, 2}, 1, 1},
+        {"an exact product below one that rounds to it", MUL, {-1, 1 + 0x1p-52}, {0x1p-51 - 2, 2}, {-2, 2 + 0x1p-51}, 1, 1},
+        {"a quotient with more digits", DIV, {1, 1}, {3, 3}, {third, above_third}, 0, 0},
+        {"a quotient whose upper end is exact", DIV, {1, 1}, {1, 3}, {third, 1}, 0, 1},
+        {"a quotient whose lower end is exact", DIV, {1, 1}, {-3, -1}, {-1, -third}, 1, 0},
+        {"a bound that is not attained", DIV, {1, 1}, {1, inf}, {-0.0, 1}, 1, 1},
+        {"a quotient without a bound", DIV, {1, 2}, {-0.0, 4}, {0.25, inf}, 1, 1},
+        {"a divisor of zero alone", DIV, {1, 2}, {-0.0, 0.0}, {inf, -inf}, 1, 1},
+    };
+    uint8_t request[MUENGLAVOT_BARE_REQUEST], answer[MUENGLAVOT_BARE_EXACT];
+
+    for (size_t i = 0; i < sizeof cases / sizeof cases[0]; i++) {
+        const Exact *one = &cases[i];
+
+        request[0] = one->operation;
+        interval(request + 1, one->first[0], one->first[1]);
+        interval(request + 17, one->second[0], one->second[1]);
+        interval(answer, one->ends[0], one->ends[1]);
+        answer[MUENGLAVOT_BARE] = one->lower_exact;
+        answer[MUENGLAVOT_BARE + 1] = one->upper_exact;
+        run(muenglavot_request_bare_exact, request, sizeof request, sizeof answer, 0, answer, one->what);
+    }
+}
+
+static void exact_refusals(void)
+{
+    const double inf = 1.0 / 0.0;
+    const size_t out_len = MUENGLAVOT_BARE_EXACT;
+    uint8_t request[MUENGLAVOT_BARE_REQUEST];
+
+    request[0] = ADD;
+    interval(request + 1, 1, 2);
+    interval(request + 17, 3, 4);
+    lengths(muenglavot_request_bare_exact, sizeof request, out_len, request, "exact lengths");
+    for (int op = 0; op < 256; op++) {
+        if (op < NEG || op > DIV) {
+            request[0] = (uint8_t)op;
+            run(muenglavot_request_bare_exact, request, sizeof request, out_len, 3, NULL, "exact operation number");
+        }
+    }
+    interval(request + 1, 2, 1);
+    run(muenglavot_request_bare_exact, request, sizeof request, out_len, 3, NULL, "exact, 3 before 5");
+    for (uint8_t op = NEG; op <= DIV; op++) {
+        request[0] = op;
+        interval(request + 1, 2, 1);
+        interval(request + 17, inf, inf);
+        run(muenglavot_request_bare_exact, request, sizeof request, out_len, refusal(5, 1), NULL, "exact, first of two");
+        interval(request + 1, 0.0, 1);
+        run(muenglavot_request_bare_exact, request, sizeof request, out_len, refusal(5, 1), NULL, "exact, wrong zero");
+        interval(request + 1, 1, 2);
+        if (op != NEG) {
+            run(muenglavot_request_bare_exact, request, sizeof request, out_len, refusal(5, 2), NULL, "exact, second");
+        }
+    }
+}
+
 static void decorated_requests(void)
 {
     const double inf = 1.0 / 0.0, nan = __builtin_nan("");
@@ -229,6 +311,8 @@ static void codecs(void)
 int main(void)
 {
     bare_requests();
+    exact_answers();
+    exact_refusals();
     decorated_requests();
     codecs();
     printf("%u passed, %u failed\n", passed, failed);

@@ -1,5 +1,6 @@
 /* Answers inputs of one kind from standard input: the number, the place, and the answer, or zero bytes where it is refused.
- * The kind is the last argument: bare, decorated, bare-be-to-le, bare-le-to-be, decorated-be-to-le or decorated-le-to-be. */
+ * The kind is the last argument: bare, exact, decorated, bare-be-to-le, bare-le-to-be, decorated-be-to-le or
+ * decorated-le-to-be. */
 #include "muenglavot.h"
 
 #include <stdio.h>
@@ -13,6 +14,7 @@ typedef struct {
 
 static const Kind kinds[] = {
     {"bare", muenglavot_request_bare, MUENGLAVOT_BARE_REQUEST, MUENGLAVOT_BARE},
+    {"exact", muenglavot_request_bare_exact, MUENGLAVOT_BARE_REQUEST, MUENGLAVOT_BARE_EXACT},
     {"decorated", muenglavot_request_decorated, MUENGLAVOT_DECORATED_REQUEST, MUENGLAVOT_DECORATED},
     {"bare-be-to-le", muenglavot_bare_be_to_le, MUENGLAVOT_BARE, MUENGLAVOT_BARE},
     {"bare-le-to-be", muenglavot_bare_le_to_be, MUENGLAVOT_BARE, MUENGLAVOT_BARE},
@@ -23,9 +25,12 @@ static const Kind kinds[] = {
 /* Inputs that are read at once: a call of stdio for each would take as long as the answers. */
 enum { BLOCK = 1024 };
 
+/* The longest input and the longest answer of any kind. */
+enum { LONGEST_IN = MUENGLAVOT_DECORATED_REQUEST, LONGEST_OUT = MUENGLAVOT_BARE_EXACT };
+
 static int answer_all(const Kind *kind)
 {
-    static uint8_t in[BLOCK * MUENGLAVOT_DECORATED_REQUEST], out[BLOCK * (2 + MUENGLAVOT_DECORATED)];
+    static uint8_t in[BLOCK * LONGEST_IN], out[BLOCK * (2 + LONGEST_OUT)];
     const size_t reply = 2 + kind->out;
     size_t count;
 

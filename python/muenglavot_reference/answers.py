@@ -5,8 +5,8 @@ from math import ceil, floor, inf, trunc
 
 from . import exact
 from .document import (
-    COM, DAC, DEF, EMPTY, ENDS, ILL, NAI, NUMBER, ONE_OPERAND, OPERAND, OPERATIONS, REQUEST,
-    TRV, operands, refusal, refused)
+    ARITHMETIC, COM, DAC, DEF, EMPTY, ENDS, ILL, NAI, NUMBER, OPERAND, OPERATIONS, REQUEST, TRV,
+    operands_read, refusal, refused)
 
 NAI_OVERLAP = 16
 
@@ -20,13 +20,18 @@ FUNCTIONS = {NUMBER[name]: function for name, function in {
     'trunc': exact.whole(trunc)}.items()}
 
 
-def bare_result(operation, *given):
-    """The result of any operation but overlap, as an interval of doubles."""
+def bounds(operation, *given):
+    """The true bounds of all results of any operation but overlap; None if there is none."""
     if operation == NUMBER['convex_hull']:
-        return exact.outward(exact.convex_hull(*given))
+        return exact.convex_hull(*given)
     if None in given:
         return None
-    return exact.outward(FUNCTIONS[operation](*given))
+    return FUNCTIONS[operation](*given)
+
+
+def bare_result(operation, *given):
+    """The result of any operation but overlap, as an interval of doubles."""
+    return exact.outward(bounds(operation, *given))
 
 
 # Decorations.
@@ -103,12 +108,26 @@ def result(operation, *given):
     return write(found) + bytes([decoration_of(operation, exact_given, decorations, found)])
 
 
+def exact_result(operation, *given):
+    """The bytes that an arithmetic operation answers to accepted bare operands, with a byte
+    for each end that says whether it is exact."""
+    found = bounds(operation, *map(read, given))
+    ends = exact.outward(found)
+    return write(ends) + bytes(exact.exact_ends(found, ends))
+
+
 def answer(request):
     """The answer to one request, of either kind."""
     kind = 'bare' if len(request) == REQUEST['bare'] else 'decorated'
     number, place = refusal(request)
     if number:
         return refused(kind, number, place)
-    operation = request[0]
-    given = operands(request)[:1 if operation in ONE_OPERAND else 2]
-    return bytes(2) + result(operation, *given).ljust(OPERAND[kind], b'\0')
+    return bytes(2) + result(request[0], *operands_read(request)).ljust(OPERAND[kind], b'\0')
+
+
+def exact_answer(request):
+    """The answer to one bare request for an arithmetic operation, with exact ends."""
+    number, place = refusal(request, ARITHMETIC)
+    if number:
+        return refused('exact', number, place)
+    return bytes(2) + exact_result(request[0], *operands_read(request))

@@ -9,6 +9,8 @@ OPERATIONS = (
 NUMBER = {name: number for number, name in enumerate(OPERATIONS, 1)}
 ONE_OPERAND = frozenset(NUMBER[name] for name in (
     'neg', 'abs', 'ceil', 'floor', 'round', 'round_ties_even', 'sign', 'trunc'))
+# The operations whose exact ends can be asked for.
+ARITHMETIC = tuple(NUMBER[name] for name in ('neg', 'add', 'sub', 'mul', 'div'))
 
 ILL, TRV, DEF, DAC, COM = DECORATIONS = (0, 4, 8, 12, 16)
 
@@ -17,6 +19,8 @@ OPERAND = {'bare': 16, 'decorated': 17}
 # A request is a number and two operands, an answer a number, a place and bytes.
 REQUEST = {kind: 1 + 2 * length for kind, length in OPERAND.items()}
 ANSWER = {kind: 2 + length for kind, length in OPERAND.items()}
+# With exact ends a bare answer has two more bytes: for either end 1 if it is exact, else 0.
+ANSWER['exact'] = ANSWER['bare'] + 2
 
 ENDS = Struct('>dd')
 PATTERNS = Struct('>QQ')
@@ -40,6 +44,11 @@ def operands(request):
     """The bytes of the two operands of a request."""
     length = len(request) // 2
     return request[1:1 + length], request[1 + length:]
+
+
+def operands_read(request):
+    """The bytes of the operands that a request's operation reads."""
+    return operands(request)[:1 if request[0] in ONE_OPERAND else 2]
 
 
 def turned(interval):
@@ -75,10 +84,11 @@ def operand_refusal(operand, by_value=False):
     return 6 if against else 0
 
 
-def refusal(request):
-    """The number and the place a request is answered with: 0, 0 if accepted."""
+def refusal(request, known=NUMBER.values()):
+    """The number and the place a request is answered with where these operations are known:
+    0, 0 if accepted."""
     operation = request[0]
-    if not 1 <= operation <= 17:
+    if operation not in known:
         return 3, 0
     first, second = operands(request)
     number = operand_refusal(first)
@@ -93,4 +103,4 @@ def refusal(request):
 
 def refused(kind, number, place):
     """The whole answer to a request that is refused."""
-    return bytes((number, place)) + bytes(OPERAND[kind])
+    return bytes((number, place)).ljust(ANSWER[kind], b'\0')

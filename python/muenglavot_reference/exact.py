@@ -22,6 +22,12 @@ def outward(x):
     return None if x is None else (-upward(-x[0]), upward(x[1]))
 
 
+def exact_ends(x, ends):
+    """Whether each end is exact, if all results have the bounds x: it is their bound, or it
+    is infinite and they have none. Both ends of EMPTY are exact."""
+    return (True, True) if x is None else (x[0] == ends[0], x[1] == ends[1])
+
+
 # Arithmetic: the ends of the hull of all results.
 
 def times(p, q):

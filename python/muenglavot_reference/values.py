@@ -11,8 +11,8 @@ from typing import Callable, NamedTuple
 
 from . import answers
 from .document import (
-    COM, DECORATIONS, EMPTY, ENTIRE, ILL, NAI, NUMBER, ONE_OPERAND, OPERAND, REQUEST, TRV,
-    operand_refusal, operands, refused, turned)
+    ARITHMETIC, COM, DECORATIONS, EMPTY, ENTIRE, ILL, NAI, NUMBER, ONE_OPERAND, OPERAND, OPERATIONS,
+    REQUEST, TRV, operand_refusal, operands, refused, turned)
 
 RECORD = REQUEST['decorated']
 # The answer where NaI has no interval part: zero bytes, and one that is no decoration's.
@@ -127,6 +127,14 @@ def codec(module, takes):
     yield f'{module}::to_le_bytes', takes, lambda x: turned(handed_back(x))
 
 
+def exact_ends(operation, *given):
+    """An arithmetic operation's answer, and behind it 1 for an exact lower end and 2 for an
+    exact upper end, added up."""
+    found = answers.exact_result(operation, *given)
+    lower, upper = found[16:]
+    return found[:16] + bytes([lower + 2 * upper])
+
+
 BARE_FUNCTIONS = (
     ('Interval::try_from', BARE, handed_back),
     *functions('Interval', BARE),
@@ -156,6 +164,8 @@ CONSTANTS = {
 OPERATION_NUMBERS = (
     (0, DECORATED, '{}_dec'), (32, BARE, '{}'),
     (160, DECORATED, '{}_dec by name'), (192, BARE, '{} by name'))
+# Where those of the arithmetic operations start that report exact ends.
+EXACT_NUMBERS = 224
 # Where the numbers of the other functions start, in their order.
 FUNCTION_NUMBERS = ((64, BARE_FUNCTIONS), (96, DECORATED_FUNCTIONS), (128, FROM_BYTES))
 CONSTANT_NUMBERS = 128 + len(FROM_BYTES)
@@ -168,6 +178,10 @@ def numbered():
             yield first + number, Function(
                 name.format(operation), (takes,) * (1 if number in ONE_OPERAND else 2),
                 partial(answers.result, number), number)
+    for number in ARITHMETIC:
+        yield EXACT_NUMBERS + number, Function(
+            f'{OPERATIONS[number - 1]}_exact', (BARE,) * (1 if number in ONE_OPERAND else 2),
+            partial(exact_ends, number), number)
     for first, group in FUNCTION_NUMBERS:
         for number, (name, takes, answer) in enumerate(group, first):
             yield number, Function(name, (takes,), answer)

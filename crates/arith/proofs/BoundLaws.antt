@@ -68,56 +68,51 @@ module _ (F : Format) (x y : Pair) (proper : Proper F x × Proper F y) where
   second-class : {k : Class} → ClassOf (setOf F y) k → ClassOf (span c d) k
   second-class {k} = subst (λ (Y : Set). ClassOf Y k) (set-proper F y (proper .1))
 
-  quotient-bounds : {j k : Class} → ClassOf (setOf F x) j → ClassOf (setOf F y) k → TrueBounds (Results dividing (setOf F x) (setOf F y)) (spanBounds dividing (kindOf j) k a b c d)
-  quotient-bounds jx ky = on-spans dividing (λ h o. quotients-right h o (kind-of (first-class jx)) (second-class ky))
+  by-class : {j k : Class} → ClassOf (setOf F x) j → ClassOf (setOf F y) k → TrueBounds (Results dividing (setOf F x) (setOf F y)) (spanBounds dividing (kindOf j) k a b c d)
+  by-class jx ky = on-spans dividing (λ h o. quotients-right h o (kind-of (first-class jx)) (second-class ky))
 
   -- "Z | ∅"
-  pub no-quotient : {k : Class} → ClassOf (setOf F y) k → isZero k ≡ true → HullOf F (Results dividing (setOf F x) (setOf F y)) (emptyPair F)
-  no-quotient ky e = none (rw e at (quotient-bounds (class-right (setOf F x) (set-valid F x (inl (proper .0)))) ky))
-    where
-      none : {R : Fraction → Type 0} → TrueBounds R nothing → HullOf F R (emptyPair F)
-      none {R} (noResults n) = hull-of-none F R n
+  pub no-quotient : {k : Class} → ClassOf (setOf F y) k → isZero k ≡ true → TrueBounds (Results dividing (setOf F x) (setOf F y)) nothing
+  no-quotient ky e = rw e at (by-class (class-right (setOf F x) (set-valid F x (inl (proper .0)))) ky)
 
   -- The table divides by no end that is 0.
   pub divides : {k : Class} → ClassOf (setOf F y) k → (j : Kind) → Divides (quotientCorner j k) c d
   divides ky j = table-divides j (second-class ky)
 
-  -- The answer z has the lower end -lo and the upper end hi.
-  module _ {z : Pair} {lo hi : ℕ} (is : z ≡ outwardPair F lo hi) where
-    hull-between : {R : Fraction → Type 0} {l u : End} → TrueBounds R (between l u) → UpperEnd F l lo → UpperEnd F u hi → HullOf F R z
-    hull-between {R} (someResults s m top bottom) down up = subst⁻¹ (HullOf F R) is (hull-of-ends F R top bottom up down s m)
+  -- p and q are the lower ends a and c negated.
+  module _ {p q : ℕ} (isP : p ≡ opposite F (x .lower)) (isQ : q ≡ opposite F (y .lower)) where
+    pub sum-bounds : TrueBounds (Results adding (setOf F x) (setOf F y)) (between (sumEnd (endOf F p) (endOf F q)) (sumEnd b d))
+    sum-bounds = rw (lower-negated F x (proper .0) isP, lower-negated F y (proper .1) isQ) (on-spans adding sums-right)
 
-    -- p and q are the lower ends a and c negated.
-    module _ {p q : ℕ} (isP : p ≡ opposite F (x .lower)) (isQ : q ≡ opposite F (y .lower)) where
-      pub sum-hull : UpperEnd F (sumEnd (endOf F p) (endOf F q)) lo → UpperEnd F (sumEnd b d) hi → HullOf F (Results adding (setOf F x) (setOf F y)) z
-      sum-hull down up =
-          hull-between (on-spans adding sums-right)
-          (rw (lower-negated F x (proper .0) isP, lower-negated F y (proper .1) isQ) at down) up
+    pub difference-bounds : TrueBounds (Results subtracting (setOf F x) (setOf F y)) (between (sumEnd (endOf F p) d) (sumEnd b (endOf F q)))
+    difference-bounds = rw (lower-negated F x (proper .0) isP, lower-negated F y (proper .1) isQ) (on-spans subtracting differences-right)
 
-      pub difference-hull : UpperEnd F (sumEnd (endOf F p) d) lo → UpperEnd F (sumEnd b (endOf F q)) hi → HullOf F (Results subtracting (setOf F x) (setOf F y)) z
-      difference-hull down up =
-          hull-between (on-spans subtracting differences-right)
-          (rw (lower-negated F x (proper .0) isP) at down) (rw (lower-negated F y (proper .1) isQ) at up)
+  -- m is the first operand mirrored, and the operands have the classes j and k.
+  module _ {m : Pair} (isM : m ≡ mirrorPair F x) {j k : Class} (jx : ClassOf (setOf F x) j) (ky : ClassOf (setOf F y) k) where
+    mirrored-first : {R : Fraction → Type 0} (E : End → End → End) (corner : Corner) {u : End} → TrueBounds R (between (endAt E corner (mirrorEnd b) (mirrorEnd a) c d) u)
+        → TrueBounds R (between (endAt E corner (endOf F (m .lower)) (endOf F (m .upper)) c d) u)
+    mirrored-first {R} E corner {u} =
+        subst₂ (λ (v w : End). TrueBounds R (between (endAt E corner v w c d) u))
+        (sym (upper-negated F x (proper .0) (ap (λ (p : Pair). p .lower) isM)))
+        (sym (lower-negated F x (proper .0) (ap (λ (p : Pair). p .upper) isM)))
 
-    -- m is the first operand mirrored, and the operands have the classes j and k.
-    module _ {m : Pair} (isM : m ≡ mirrorPair F x) {j k : Class} (jx : ClassOf (setOf F x) j) (ky : ClassOf (setOf F y) k) where
-      mirrored-first : (E : End → End → End) (corner : Corner) → UpperEnd F (endAt E corner (endOf F (m .lower)) (endOf F (m .upper)) c d) lo
-          → UpperEnd F (endAt E corner (mirrorEnd b) (mirrorEnd a) c d) lo
-      mirrored-first E corner =
-          subst₂ (λ (u v : End). UpperEnd F (endAt E corner u v c d) lo)
-          (upper-negated F x (proper .0) (ap (λ (p : Pair). p .lower) isM))
-          (lower-negated F x (proper .0) (ap (λ (p : Pair). p .upper) isM))
+    pub product-bounds : TrueBounds (Results multiplying (setOf F x) (setOf F y))
+        (between (productUpper (mirrorKind (kindOf j)) (kindOf k) (endOf F (m .lower)) (endOf F (m .upper)) c d) (productUpper (kindOf j) (kindOf k) a b c d))
+    product-bounds =
+        mirrored-first productEnd (productCorner (mirrorKind (kindOf j)) (kindOf k))
+        (on-spans multiplying (λ h o. products-right h o (kind-of (first-class jx)) (kind-of (second-class ky))))
 
-      pub product-hull : UpperEnd F (productUpper (mirrorKind (kindOf j)) (kindOf k) (endOf F (m .lower)) (endOf F (m .upper)) c d) lo
-          → UpperEnd F (productUpper (kindOf j) (kindOf k) a b c d) hi → HullOf F (Results multiplying (setOf F x) (setOf F y)) z
-      product-hull down =
-          hull-between (on-spans multiplying (λ h o. products-right h o (kind-of (first-class jx)) (kind-of (second-class ky))))
-          (mirrored-first productEnd (productCorner (mirrorKind (kindOf j)) (kindOf k)) down)
+    pub quotient-bounds : isZero k ≡ false → TrueBounds (Results dividing (setOf F x) (setOf F y))
+        (between (quotientUpper (mirrorKind (kindOf j)) k (endOf F (m .lower)) (endOf F (m .upper)) c d) (quotientUpper (kindOf j) k a b c d))
+    quotient-bounds e = mirrored-first quotientEnd (quotientCorner (mirrorKind (kindOf j)) k) (rw e at (by-class jx ky))
 
-      pub quotient-hull : isZero k ≡ false → UpperEnd F (quotientUpper (mirrorKind (kindOf j)) k (endOf F (m .lower)) (endOf F (m .upper)) c d) lo
-          → UpperEnd F (quotientUpper (kindOf j) k a b c d) hi → HullOf F (Results dividing (setOf F x) (setOf F y)) z
-      quotient-hull e down =
-          hull-between (rw e at (quotient-bounds jx ky)) (mirrored-first quotientEnd (quotientCorner (mirrorKind (kindOf j)) k) down)
+-- Where there are no results, the answer is EMPTY; else z, with the lower end -lo and the upper end hi, if the true bounds round to them.
+pub hull-nothing : (F : Format) {R : Fraction → Type 0} → TrueBounds R nothing → HullOf F R (emptyPair F)
+hull-nothing F {R} (noResults none) = hull-of-none F R none
+
+pub hull-between : (F : Format) {z : Pair} {lo hi : ℕ} → z ≡ outwardPair F lo hi → {R : Fraction → Type 0} {l u : End} → TrueBounds R (between l u)
+    → UpperEnd F l lo → UpperEnd F u hi → HullOf F R z
+hull-between F is {R} (someResults s m top bottom) down up = subst⁻¹ (HullOf F R) is (hull-of-ends F R top bottom up down s m)
 
 -- The mirrored operand with its zeros tidied.
 pub negation-hull : (F : Format) (x z : Pair) → Bare F x → {m : Pair} → m ≡ mirrorPair F x → Tidied F m z → HullOf F (Result₁ neg (setOf F x)) z

@@ -1,4 +1,4 @@
-// Negation, sum, difference, product and quotient of bare intervals that were judged already.
+// Negation, sum, difference, product and quotient of bare intervals that were judged already, and which of their ends are exact.
 ghost use Rattle.patterns.specs.Format.{binary64};
 ghost use Rattle.meaning.specs.Pairs.{Bare, setOf};
 ghost use Rattle.meaning.specs.Points.{neg, add, sub, mul, div};
@@ -20,6 +20,14 @@ use kinds::kind_of;
 use kinds::mirrored_kind;
 use tables::product_corner;
 use tables::quotient_corner;
+
+mod exact;
+
+pub use exact::Exactness;
+pub use exact::difference_exactness;
+pub use exact::product_exactness;
+pub use exact::quotient_exactness;
+pub use exact::sum_exactness;
 
 // -[a, b] = [-b, -a]
 pub fn neg_of(x: EndPair) -> EndPair

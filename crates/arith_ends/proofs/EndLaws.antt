@@ -6,9 +6,10 @@ use Prim.Native.Nat.{ℕ, _*_, _<_}
 use native.Mathlib.Omega.{arith}
 use borrow.Author.Tests.{le-ltb}
 use lib.Dec.{ltb}
+use Rattle.truth.specs.Answers.{Answers, affirmed}
 use Rattle.patterns.specs.Format.{Format, infinity, signBit}
 use Rattle.patterns.specs.Value.{Finite, magnitude, value, plus, minus, choose}
-use Rattle.patterns.specs.Rounding.{Up, quotientOf, divided}
+use Rattle.patterns.specs.Rounding.{Up, Reached, quotientOf, divided}
 use Rattle.patterns.proofs.ValueLaws.{le-or-lt, value-zero}
 use Rattle.patterns.proofs.UpLaws.{infinity-positive}
 use Rattle.patterns.proofs.SignLaws.{infinity-below, finite-positive, plus-positive, minus-positive}
@@ -16,10 +17,12 @@ use Rattle.meaning.specs.Fraction.{Fraction, _≈_, whole}
 use Rattle.meaning.specs.Sets.{End, at, unbounded}
 use Rattle.meaning.specs.Classes.{AtZero, atZero}
 use Rattle.meaning.specs.Pairs.{worth, endBy, endOf}
+use Rattle.meaning.specs.Hull.{EndOfFormat, formatNumber, formatInfinite}
 use Rattle.meaning.specs.Supremum.{UpperEnd}
+use Rattle.meaning.proofs.FractionLaws.{eq-sym}
 use Rattle.meaning.proofs.PairLaws.{end-finite}
 use Rattle.theorem3.specs.Ends.{quotientEnd}
-use Rattle.theorem3.proofs.UpEnd.{quotient-end}
+use Rattle.theorem3.proofs.UpEnd.{quotient-end, quotient-format}
 use Rattle.points.proofs.Exactly.{exact-number, exact-infinity}
 
 module _ (F : Format) {b : ℕ} (pattern : b < 2 * signBit F) where
@@ -36,14 +39,13 @@ module _ (F : Format) {b : ℕ} (pattern : b < 2 * signBit F) where
       (le-or-lt (infinity F) (magnitude F b))
 
 -- +0.0 is the upper end 0.
-pub zero-end : (F : Format) → UpperEnd F (at (whole 0)) 0
-zero-end F = exact-number F (finite-positive F (infinity-positive F)) (λ e. omega (arith, infinity-below F)) worth-zero
-  where
-    sign-positive : 0 < signBit F
-    sign-positive = omega (arith, infinity-below F)
+worth-zero : (F : Format) → worth F 0 ≈ whole 0
+worth-zero F =
+    let positive : 0 < signBit F = omega (arith, infinity-below F) in
+    record { eq = omega (arith, plus-positive F positive, minus-positive F positive, value-zero (F .frac)) }
 
-    worth-zero : worth F 0 ≈ whole 0
-    worth-zero = record { eq = omega (arith, plus-positive F sign-positive, minus-positive F sign-positive, value-zero (F .frac)) }
+pub zero-end : (F : Format) → UpperEnd F (at (whole 0)) 0
+zero-end F = exact-number F (finite-positive F (infinity-positive F)) (λ e. omega (arith, infinity-below F)) (worth-zero F)
 
 -- Two ends combined by E, which has no bound where the first has none.
 module _ (F : Format) (E : End → End → End) (first : (y : End) → E unbounded y ≡ unbounded) where
@@ -96,3 +98,26 @@ module _ (F : Format) {b : ℕ} (finite : Finite F b) (not-zero : AtZero (endOf 
 
   pub quotient-right : (a : ℕ) {r : ℕ} → Up F (quotientOf F a b) r → UpperEnd F (quotientEnd (at (worth F a)) (at (worth F b))) r
   quotient-right a up = quotient-end F a b (over-positive a) worth-not-zero up
+
+  pub quotient-exact : (a : ℕ) {x : Bool} → Answers (Reached F (quotientOf F a b)) x → Answers (EndOfFormat F (quotientEnd (at (worth F a)) (at (worth F b)))) x
+  quotient-exact a told = quotient-format F a b (over-positive a) worth-not-zero told
+
+-- No bound is an end of the format, and 0 is a number of it.
+pub infinite-exact : (F : Format) → EndOfFormat F unbounded
+infinite-exact F = formatInfinite
+
+pub zero-exact : (F : Format) → EndOfFormat F (at (whole 0))
+zero-exact F = formatNumber (record { pattern = 0; isFinite = finite-positive F (infinity-positive F); is = eq-sym (worth-zero F) })
+
+-- Whether two ends combined by E, which has no bound where the first has none, make an end of the format.
+module _ (F : Format) (E : End → End → End) (first : (y : End) → E unbounded y ≡ unbounded) where
+  pub exact-numbers : {a b : ℕ} {x : Bool} → Finite F a × Finite F b → Answers (EndOfFormat F (E (at (worth F a)) (at (worth F b)))) x
+      → Answers (EndOfFormat F (E (endOf F a) (endOf F b))) x
+  exact-numbers f h = rw (end-finite F (f .0), end-finite F (f .1)) h
+
+  pub exact-infinite : {a b : ℕ} {u : End} → ((x : Fraction) → E (at x) unbounded ≡ u) → EndOfFormat F u → a < 2 * signBit F → b < 2 * signBit F → (Finite F a × Finite F b → ⊥)
+      → Answers (EndOfFormat F (E (endOf F a) (endOf F b))) true
+  exact-infinite {a} {b} second h p q n =
+      affirmed
+      (⊎-elim (λ f. rw (end-finite F f, end-infinite F q (λ g. n (f, g)), second (worth F a)) h)
+      (λ g. rw (end-infinite F p g, first (endOf F b)) (infinite-exact F)) (finite-or F p))

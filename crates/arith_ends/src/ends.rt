@@ -8,11 +8,11 @@ ghost use Rattle.theorem3.specs.Ends.{sumEnd, productEnd, quotientEnd};
 ghost use Rattle.truth.specs.Answers.{Answers};
 use end_pairs::INFINITY;
 use end_pairs::is_finite;
-use products::mul_ru;
-use quotients::div_ru;
-use sums::add_ru;
+use products::product_up;
+use quotients::quotient_up;
+use sums::sum_up;
 
-fn both_finite(a: u64, b: u64) -> bool
+pub fn both_finite(a: u64, b: u64) -> bool
     ensures { λ r. ⌜ Answers (Finite binary64 a × Finite binary64 b) r ⌝ }
 {
     is_finite(a) && is_finite(b)
@@ -22,7 +22,7 @@ pub fn sum_end(a: u64, b: u64) -> u64
     ensures { λ r. ⌜ UpperEnd binary64 (sumEnd (endOf binary64 a) (endOf binary64 b)) r ⌝ }
 {
     if both_finite(a, b) {
-        return add_ru(a, b);
+        return sum_up(a, b);
     }
     INFINITY
 }
@@ -32,7 +32,7 @@ pub fn product_end(a: u64, b: u64) -> u64
     ensures { λ r. ⌜ UpperEnd binary64 (productEnd (endOf binary64 a) (endOf binary64 b)) r ⌝ }
 {
     if both_finite(a, b) {
-        return mul_ru(a, b);
+        return product_up(a, b);
     }
     INFINITY
 }
@@ -43,7 +43,7 @@ pub fn quotient_end(a: u64, b: u64) -> u64
     ensures { λ r. ⌜ UpperEnd binary64 (quotientEnd (endOf binary64 a) (endOf binary64 b)) r ⌝ }
 {
     if both_finite(a, b) {
-        return div_ru(a, b);
+        return quotient_up(a, b);
     }
     if is_finite(a) {
         return 0;

@@ -13,11 +13,13 @@ mod operation;
 use lent_calls::BARE_REQUEST;
 use lent_calls::NUMBER_AT;
 use lent_intervals::BARE;
+pub use operation::Both;
 use operation::one_operand;
 use operation::overlap_state;
+pub use operation::read_both;
 use operation::two_operands;
-use operations::Asked;
-use operations::numbered;
+use operation_names::Asked;
+use operation_names::numbered;
 use refusals::Refusal;
 
 // Does what the number asks for. One-operand operations do not read the second operand.

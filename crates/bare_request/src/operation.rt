@@ -7,7 +7,7 @@ ghost use Rattle.meaning.specs.Bytes.{bigEndian, JudgedBytes};
 ghost use Rattle.meaning.specs.Calls.{Called};
 ghost use Rattle.meaning.specs.Requests.{BareOutcome, unary, binary, overlap, firstOperand, secondOperand, bareSize};
 ghost use Rattle.meaning.specs.Statement.{Answered₂};
-ghost use Rattle.operations.specs.Names.{unaryOf, binaryOf};
+ghost use Rattle.operation_names.specs.Names.{unaryOf, binaryOf};
 ghost use Rattle.request_laws.specs.Reads.{OnOperands, BothRead};
 ghost use Rattle.bare_request.specs.OperandMeaning.{bothOf, ReadPair};
 use ends_in_bytes::ByteOrder;
@@ -18,8 +18,8 @@ use lent_calls::write_state;
 use lent_intervals::BARE;
 use lent_intervals::read_bare;
 use lent_intervals::write_bare;
-use operations::Binary;
-use operations::Unary;
+use operation_names::Binary;
+use operation_names::Unary;
 use operations::combine;
 use operations::image;
 use overlap::overlap_of;
@@ -36,7 +36,7 @@ pub enum Both {
     Refused(Refusal),
 }
 
-fn read_both(input: &[u8]) -> Both
+pub fn read_both(input: &[u8]) -> Both
     requires { ⌜ length (now input) ≡ 33 ⌝ }
     ensures { λ r. ⌜ Answered₂ (JudgedBytes binary64 bigEndian) (BothRead ReadPair) (firstOperand bareSize (now (input .entry))) (secondOperand bareSize (now (input .entry))) (bothOf r) ⌝ }
 {

@@ -13,8 +13,8 @@ use judged::one;
 use judged::one_dec;
 use judged::two;
 use judged::two_dec;
-use operations::Binary;
-use operations::Unary;
+use operation_names::Binary;
+use operation_names::Unary;
 
 // The absolute value of `x`. The domain of the point function is R, its range [0, ∞).
 pub fn abs(x: Interval) -> Answer

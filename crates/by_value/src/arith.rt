@@ -3,18 +3,23 @@ ghost use Rattle.patterns.specs.Format.{binary64};
 ghost use Rattle.meaning.specs.Points as points;
 ghost use Rattle.meaning.specs.Results.{point};
 ghost use Rattle.meaning.specs.Statement.{Bare₁, Bare₂, Decorated₁, Decorated₂};
+ghost use Rattle.meaning.specs.Exactness.{Exact₁, Exact₂};
 ghost use Rattle.interval.specs.IntervalMeaning.{pairOf, outcome};
 ghost use Rattle.dec_interval.specs.DecIntervalMeaning.{decPairOf, decOutcome};
+ghost use Rattle.judged.specs.ExactAnswers.{exactOutcome};
 use dec_interval::DecAnswer;
 use dec_interval::DecInterval;
 use interval::Answer;
 use interval::Interval;
+use judged::ExactAnswer;
 use judged::one;
 use judged::one_dec;
 use judged::two;
 use judged::two_dec;
-use operations::Binary;
-use operations::Unary;
+use judged::two_exact;
+use operation_names::Arithmetic;
+use operation_names::Binary;
+use operation_names::Unary;
 
 // -[a, b] = [-b, -a]
 pub fn neg(x: Interval) -> Answer
@@ -49,6 +54,41 @@ pub fn div(x: Interval, y: Interval) -> Answer
     ensures { λ r. ⌜ Bare₂ binary64 (point points.div) (pairOf x) (pairOf y) (outcome r) ⌝ }
 {
     two(Binary::Div, x, y)
+}
+
+// `neg`, and for each end whether it is the true bound of all results, which it always is.
+pub fn neg_exact(x: Interval) -> ExactAnswer
+    ensures { λ r. ⌜ Exact₁ binary64 points.neg (pairOf x) (exactOutcome r) ⌝ }
+{
+    judged::neg_exact(x)
+}
+
+// `add`, and for each end whether it is the true bound of all results, attained or not.
+pub fn add_exact(x: Interval, y: Interval) -> ExactAnswer
+    ensures { λ r. ⌜ Exact₂ binary64 (point points.add) (pairOf x) (pairOf y) (exactOutcome r) ⌝ }
+{
+    two_exact(Arithmetic::Add, x, y)
+}
+
+// `sub`, and for each end whether it is the true bound of all results, attained or not.
+pub fn sub_exact(x: Interval, y: Interval) -> ExactAnswer
+    ensures { λ r. ⌜ Exact₂ binary64 (point points.sub) (pairOf x) (pairOf y) (exactOutcome r) ⌝ }
+{
+    two_exact(Arithmetic::Sub, x, y)
+}
+
+// `mul`, and for each end whether it is the true bound of all results, attained or not.
+pub fn mul_exact(x: Interval, y: Interval) -> ExactAnswer
+    ensures { λ r. ⌜ Exact₂ binary64 (point points.mul) (pairOf x) (pairOf y) (exactOutcome r) ⌝ }
+{
+    two_exact(Arithmetic::Mul, x, y)
+}
+
+// `div`, and for each end whether it is the true bound of all results, attained or not.
+pub fn div_exact(x: Interval, y: Interval) -> ExactAnswer
+    ensures { λ r. ⌜ Exact₂ binary64 (point points.div) (pairOf x) (pairOf y) (exactOutcome r) ⌝ }
+{
+    two_exact(Arithmetic::Div, x, y)
 }
 
 // The decorated version of `neg`. It is NaI if `x` is.

@@ -10,7 +10,7 @@ use interval::Answer;
 use interval::Interval;
 use judged::one;
 use judged::one_dec;
-use operations::Unary;
+use operation_names::Unary;
 use wholes::Function;
 
 // Rounds `x` to the closest integer toward +∞.

@@ -10,7 +10,7 @@ use interval::Answer;
 use interval::Interval;
 use judged::two;
 use judged::two_dec;
-use operations::Binary;
+use operation_names::Binary;
 
 // The tightest interval that contains both `x` and `y`.
 pub fn convex_hull(x: Interval, y: Interval) -> Answer

@@ -5,6 +5,8 @@ pub mod RowTests
 pub mod StateTests
 pub mod QuantifiedText
 pub mod DecoratedTests
+pub mod ExactTests
 pub mod TableLaws
 pub mod Examples
 pub mod WrongVersions
+pub mod WrongFlags

@@ -7,24 +7,30 @@ use Rattle.patterns.specs.Value.{value, magnitude, plus, minus, opposite}
 use Rattle.meaning.specs.Fraction.{_⊕_, _⊗_}
 use Rattle.meaning.specs.Pairs.{both, minusInfinity, endOf, setOf}
 use Rattle.theorem3.specs.Ends.{reciprocal, greater}
-use Rattle.cases.specs.Rows.{Row, bare, decorated, stepped, state, Right, All, none, more}
+use Rattle.cases.specs.Rows.{Row, bare, decorated, stepped, state, exact, exactNeg, Right, All, none, more}
 use Rattle.cases.specs.Table.{table}
+use Rattle.cases.specs.ExactTable.{exactTable}
 use Rattle.cases.proofs.Tests.{split}
 use Rattle.cases.proofs.RowTests.{arithmeticTest, arithmetic-tested, stepTest, step-tested}
 use Rattle.cases.proofs.StateTests.{stateTest, state-tested}
 use Rattle.cases.proofs.DecoratedTests.{decoratedTest, decorated-tested}
+use Rattle.cases.proofs.ExactTests.{exactTest, exact-tested, exactNegTest, exact-neg-tested}
 
 abbrev passes : Row → Bool
 passes (bare op x y z) = arithmeticTest binary64 op x y z
 passes (decorated op x y z) = decoratedTest binary64 op x y z
 passes (stepped op x z) = stepTest binary64 op x z
 passes (state x y s n) = stateTest binary64 x y s n
+passes (exact op x y z) = exactTest binary64 op x y z
+passes (exactNeg x z) = exactNegTest binary64 x z
 
 passed : (row : Row) → T (passes row) → Right row
 passed (bare op x y z) t = arithmetic-tested binary64 op x y z t
 passed (decorated op x y z) t = decorated-tested binary64 op x y z t
 passed (stepped op x z) t = step-tested binary64 op x z t
 passed (state x y s n) t = state-tested x y s n t
+passed (exact op x y z) t = exact-tested binary64 op x y z t
+passed (exactNeg x z) t = exact-neg-tested binary64 x z t
 
 abbrev allPass : List Row → Bool
 allPass [] = true
@@ -38,3 +44,8 @@ all-passed (row ∷ rows) t = let s = split (passes row) (allPass rows) t in mor
 pub table-right : All Right table
 unfolding infinity signBit value magnitude plus minus opposite _⊕_ _⊗_ minusInfinity endOf setOf reciprocal greater
 table-right = all-passed table tt
+
+-- The statement of the table of exactness.
+pub exact-table-right : All Right exactTable
+unfolding infinity signBit value magnitude plus minus opposite _⊕_ _⊗_ minusInfinity endOf setOf reciprocal greater
+exact-table-right = all-passed exactTable tt

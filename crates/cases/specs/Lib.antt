@@ -2,3 +2,4 @@
 pub mod Quantified
 pub mod Rows
 pub mod Table
+pub mod ExactTable

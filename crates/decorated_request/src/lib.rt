@@ -16,8 +16,8 @@ use lent_intervals::DECORATED;
 use operation::one_operand;
 use operation::overlap_state;
 use operation::two_operands;
-use operations::Asked;
-use operations::numbered;
+use operation_names::Asked;
+use operation_names::numbered;
 use refusals::Refusal;
 
 // Does what the number asks for. One-operand operations do not read the second operand.

@@ -26,7 +26,10 @@ module _ (F : Format) where
   pub empty-hull₁ : (op : Unary) (x : Pair) → EmptyPair F x → HullOf F (Result₁ op (setOf F x)) (emptyPair F)
   empty-hull₁ op x e = hull-of-none F (Result₁ op (setOf F x)) (λ r m. no-member x e (m .x) (m .inX))
 
+  pub empty-none₂ : (op : Binary) (x y : Pair) → EmptyPair F x ⊎ EmptyPair F y → (r : Fraction) → Result₂ (point op) (setOf F x) (setOf F y) r → ⊥
+  empty-none₂ op x y (inl e) r m = no-member x e (m .x) (m .inX)
+  empty-none₂ op x y (inr e) r m = no-member y e (m .y) (m .inY)
+
   pub empty-hull₂ : (op : Binary) (x y : Pair) → EmptyPair F x ⊎ EmptyPair F y
       → HullOf F (Result₂ (point op) (setOf F x) (setOf F y)) (emptyPair F)
-  empty-hull₂ op x y (inl e) = hull-of-none F (Result₂ (point op) (setOf F x) (setOf F y)) (λ r m. no-member x e (m .x) (m .inX))
-  empty-hull₂ op x y (inr e) = hull-of-none F (Result₂ (point op) (setOf F x) (setOf F y)) (λ r m. no-member y e (m .y) (m .inY))
+  empty-hull₂ op x y e = hull-of-none F (Result₂ (point op) (setOf F x) (setOf F y)) (empty-none₂ op x y e)

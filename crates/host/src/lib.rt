@@ -3,6 +3,7 @@
 ghost use Rattle.patterns.specs.Format.{binary64};
 ghost use Rattle.meaning.specs.Bytes.{bigEndian, littleEndian};
 ghost use Rattle.meaning.specs.Requests.{BareRequest, DecoratedRequest, BareCodec, DecoratedCodec};
+ghost use Rattle.meaning.specs.ExactRequests.{ExactRequest};
 ghost use Rattle.request_laws.specs.Calls.{Packed};
 use lent_calls::packed;
 
@@ -12,6 +13,14 @@ pub extern "C" fn muenglavot_request_bare(input: &[u8], output: &mut [u8]) -> u3
     ensures { λ r. ⌜ Packed (BareRequest binary64) (now (input .entry)) (now (output .entry)) r (now (output .exit)) ⌝ }
 {
     packed(bare_request::request_bare(input, output))
+}
+
+// One arithmetic operation on bare intervals, and which ends are exact: 33 bytes in, 18 out.
+#[no_mangle]
+pub extern "C" fn muenglavot_request_bare_exact(input: &[u8], output: &mut [u8]) -> u32
+    ensures { λ r. ⌜ Packed (ExactRequest binary64) (now (input .entry)) (now (output .entry)) r (now (output .exit)) ⌝ }
+{
+    packed(exact_request::request_bare_exact(input, output))
 }
 
 // One operation on decorated intervals: 35 bytes in, 17 out.

@@ -9,9 +9,8 @@ use Rattle.patterns.specs.Format.{Format}
 use Rattle.patterns.specs.Value.{Finite}
 use Rattle.patterns.proofs.ValueLaws.{le-or-lt}
 use Rattle.meaning.specs.Fraction.{Fraction, _≈_}
-use Rattle.meaning.specs.Sets.{at, unbounded}
+use Rattle.meaning.specs.Sets.{at, unbounded, SameEnd, sameNumber, sameNone}
 use Rattle.meaning.specs.Pairs.{worth, endOf}
-use Rattle.meaning.specs.Decorations.{SameEnd, sameNumber, sameNone}
 use Rattle.meaning.proofs.FractionLaws.{lt-not-le, eq-le, eq-ge, antisymm}
 use Rattle.meaning.proofs.PairLaws.{end-finite, end-infinity, end-minusInfinity}
 use Rattle.truth.specs.Answers.{Answers}

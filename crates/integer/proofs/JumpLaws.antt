@@ -11,12 +11,12 @@ use Rattle.patterns.specs.Value.{magnitude, Finite}
 use Rattle.patterns.proofs.ValueLaws.{value-zero}
 use Rattle.patterns.proofs.SignLaws.{finite-positive}
 use Rattle.meaning.specs.Fraction.{Fraction, _≈_, _⊕_, whole, half, Whole}
-use Rattle.meaning.specs.Sets.{End, at, Set, empty, span}
+use Rattle.meaning.specs.Sets.{End, at, Set, empty, span, SameEnd, sameNumber}
 use Rattle.meaning.specs.Points.{Unary}
 use Rattle.meaning.specs.Results.{Result₁}
 use Rattle.meaning.specs.Pairs.{Pair, worth, Proper, EmptyPair, Bare, emptyPair, endBy, endOf, setOf}
 use Rattle.meaning.specs.Decorations as meant
-use Rattle.meaning.specs.Decorations.{SameEnd, sameNumber, LowersAgree, lowersAgree, UppersAgree, uppersAgree, HalfEnd, halfLower, halfUpper, ZeroLower, zeroLower, DacTest, Stepped, Allows₁}
+use Rattle.meaning.specs.Decorations.{LowersAgree, lowersAgree, UppersAgree, uppersAgree, HalfEnd, halfLower, halfUpper, ZeroLower, zeroLower, DacTest, Stepped, Allows₁}
 use Rattle.meaning.specs.Statement.{HullOf}
 use Rattle.meaning.proofs.FractionLaws.{eq-sym, eq-trans}
 use Rattle.meaning.proofs.PairLaws.{end-finite, set-proper}

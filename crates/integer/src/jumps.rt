@@ -1,8 +1,9 @@
 // Whether a function jumps within an interval on which it has one result.
 ghost use mathlib.Core.Logic.{_⊎_};
 ghost use Rattle.patterns.specs.Format.{binary64};
+ghost use Rattle.meaning.specs.Sets.{SameEnd};
 ghost use Rattle.meaning.specs.Pairs.{Proper, endOf, setOf};
-ghost use Rattle.meaning.specs.Decorations.{SameEnd, LowersAgree, UppersAgree, HalfEnd, ZeroLower, DacTest};
+ghost use Rattle.meaning.specs.Decorations.{LowersAgree, UppersAgree, HalfEnd, ZeroLower, DacTest};
 ghost use Rattle.truth.specs.Answers.{Answers};
 ghost use Rattle.end_pairs.specs.EndPairMeaning.{pairOf};
 ghost use Rattle.wholes.specs.Made.{operation};

@@ -1,2 +1,3 @@
 -- Every public function has one answer.
+pub mod ExactCodes
 pub mod OneAnswer

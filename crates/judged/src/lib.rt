@@ -2,24 +2,38 @@
 // name on operands that were judged (`operations`).
 ghost use Rattle.patterns.specs.Format.{binary64};
 ghost use Rattle.meaning.specs.Statement.{Bare₁, Bare₂, Decorated₁, Decorated₂};
+ghost use Rattle.meaning.specs.Points.{neg};
+ghost use Rattle.meaning.specs.Exactness.{Exact₁, Exact₂};
 ghost use Rattle.interval.specs.IntervalMeaning.{pairOf, outcome};
 ghost use Rattle.dec_interval.specs.DecIntervalMeaning.{decPairOf, decOutcome};
-ghost use Rattle.operations.specs.Names.{unaryOf, binaryOf};
+ghost use Rattle.operation_names.specs.Names.{unaryOf, binaryOf, arithmeticOf};
+ghost use Rattle.judged.specs.ExactAnswers.{exactOutcome};
 use dec_interval::DecAnswer;
 use dec_interval::DecInterval;
 use decorations::judge_dec;
+use exact_operations::ExactInterval;
+use exact_operations::combine_exact;
+use exact_operations::negate_exact;
 use interval::Answer;
 use interval::Interval;
 use interval::Verdict;
 use interval::judge;
+use operation_names::Arithmetic;
+use operation_names::Binary;
+use operation_names::Unary;
 use operation_steps::judge_two;
 use operation_steps::judge_two_dec;
-use operations::Binary;
-use operations::Unary;
 use operations::combine;
 use operations::combine_dec;
 use operations::image;
 use operations::image_dec;
+use refusals::Refusal;
+
+// An interval with the exactness of each end, or a refusal.
+pub enum ExactAnswer {
+    Given(ExactInterval),
+    Refused(Refusal),
+}
 
 pub fn one(f: Unary, x: Interval) -> Answer
     ensures { λ r. ⌜ Bare₁ binary64 (unaryOf f) (pairOf x) (outcome r) ⌝ }
@@ -36,6 +50,24 @@ pub fn two(o: Binary, x: Interval, y: Interval) -> Answer
     match judge_two(x, y) {
         Verdict::Sound => Answer::Given(combine(o, x, y)),
         Verdict::Refused(refusal) => Answer::Refused(refusal),
+    }
+}
+
+pub fn neg_exact(x: Interval) -> ExactAnswer
+    ensures { λ r. ⌜ Exact₁ binary64 neg (pairOf x) (exactOutcome r) ⌝ }
+{
+    match judge(x) {
+        Verdict::Sound => ExactAnswer::Given(negate_exact(x)),
+        Verdict::Refused(refusal) => ExactAnswer::Refused(refusal),
+    }
+}
+
+pub fn two_exact(o: Arithmetic, x: Interval, y: Interval) -> ExactAnswer
+    ensures { λ r. ⌜ Exact₂ binary64 (arithmeticOf o) (pairOf x) (pairOf y) (exactOutcome r) ⌝ }
+{
+    match judge_two(x, y) {
+        Verdict::Sound => ExactAnswer::Given(combine_exact(o, x, y)),
+        Verdict::Refused(refusal) => ExactAnswer::Refused(refusal),
     }
 }
 

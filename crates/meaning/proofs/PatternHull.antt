@@ -9,13 +9,14 @@ use Rattle.patterns.specs.Value.{Finite, opposite}
 use Rattle.patterns.specs.Rounding.{UpperPattern}
 use Rattle.patterns.proofs.SignLaws.{infinity-below, opposite-opposite, finite-opposite}
 use Rattle.meaning.specs.Fraction.{Fraction, _≼_}
-use Rattle.meaning.specs.Sets.{End, at, unbounded, span, ordered, Valid, validSpan}
-use Rattle.meaning.specs.Pairs.{Pair, worth, minusInfinity, Proper, EmptyPair, emptyPair, endOf}
+use Rattle.meaning.specs.Sets.{End, at, unbounded, span, ordered, Valid, validSpan, mirrorEnd}
+use Rattle.meaning.specs.Pairs.{Pair, worth, minusInfinity, Proper, EmptyPair, emptyPair, endOf, setOf}
 use Rattle.meaning.specs.Hull.{OfFormat, formatNumber, formatInfinite, Hull}
 use Rattle.meaning.specs.Statement.{HullOf}
 use Rattle.meaning.specs.Supremum.{AtMost, atMost, Supremum, Mirrored, UpperEnd}
 use Rattle.meaning.proofs.FractionLaws.{le-trans, eq-le, eq-ge, eq-refl}
 use Rattle.meaning.proofs.HullLaws.{RoundedUp, hull-of-bounds, hull-of-nothing}
+use Rattle.meaning.proofs.SupremumLaws.{at-most, never-most, raise}
 use Rattle.meaning.proofs.PairLaws.{end-finite, end-infinity, end-opposite, opposite-infinity, opposite-zero, infinity-not-finite, set-proper, set-empty}
 
 -- A pattern that may be an upper end is a pattern of the format.
@@ -23,20 +24,14 @@ pub upper-pattern : (F : Format) {r : ℕ} → UpperPattern F r → r < 2 * sign
 upper-pattern F {r} h = ⊎-elim (λ f. f .pattern) (λ e. omega (arith, infinity-below F)) (h .number)
 
 module _ (F : Format) {u : End} {r : ℕ} (h : UpperEnd F u r) where
-  raise : {v w : Fraction} {u : End} → v ≼ w → AtMost v u → AtMost w u
-  raise k (atMost l) = atMost (le-trans l k)
-
   of-finite : (f : Finite F r) → RoundedUp F u (at (worth F r))
   of-finite f =
       record {
         ofFormat = formatNumber (record { pattern = r; isFinite = f; is = eq-refl (worth F r) });
-        above = λ w k. raise (lowered k) (h .above f);
+        above = λ w k. raise (at-most k) (h .above f);
         least = λ w g k. raised w g (h .least (g .pattern) (g .isFinite) (raise (eq-le (g .is)) k));
       }
     where
-      lowered : {q w : Fraction} → AtMost w (at q) → q ≼ w
-      lowered (atMost l) = l
-
       raised : (w : Fraction) (g : OfFormat F w) → Finite F r × (worth F r ≼ worth F (g .pattern)) → AtMost w (at (worth F r))
       raised w g l = atMost (le-trans (l .1) (eq-ge (g .is)))
 
@@ -44,12 +39,9 @@ module _ (F : Format) {u : End} {r : ℕ} (h : UpperEnd F u r) where
   of-infinity e =
       record {
         ofFormat = formatInfinite;
-        above = λ w k. absurd (never k);
+        above = λ w k. absurd (never-most k);
         least = λ w g k. absurd (infinity-not-finite F (subst (Finite F) e (h .least (g .pattern) (g .isFinite) (raise (eq-le (g .is)) k) .0)));
       }
-    where
-      never : {w : Fraction} → AtMost w unbounded → ⊥
-      never k = elim k [ ]
 
   -- The rounded pattern bounds by the rounded end.
   pub rounded-up : RoundedUp F u (endOf F r)
@@ -84,6 +76,9 @@ module _ (F : Format) (R : Fraction → Type 0) {u l : End} {lo hi : ℕ}
 
   not-zero : opposite F lo ≡ 0 → ⊥
   not-zero e = down .upper .notMinusZero (sym (opposite-opposite F (upper-pattern F (down .upper))) ∙ ap (opposite F) e ∙ opposite-zero F)
+
+  pub set-of-ends : setOf F (pairBy F lo hi) ≡ span (mirrorEnd (endOf F lo)) (endOf F hi)
+  set-of-ends = set-proper F (pairBy F lo hi) proper ∙ ap (λ (e : End). span e (endOf F hi)) (end-opposite F (upper-pattern F (down .upper)))
 
   pub hull-of-ends : HullOf F R (pairBy F lo hi)
   hull-of-ends =

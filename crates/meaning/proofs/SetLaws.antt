@@ -4,8 +4,7 @@ use mathlib.Core.Logic.{_⊎_, inl, inr}
 use native.Mathlib.Nat.{mul-pos}
 use native.Mathlib.Omega.{arith}
 use Rattle.meaning.specs.Fraction.{Fraction, _≼_, _≺_, _⊕_, negated, whole}
-use Rattle.meaning.specs.Sets.{End, at, unbounded, Set, empty, span, Under, under, underNone, Over, over, overNone, Member, SameSet, Ordered, ordered, noLower, noUpper, mirrorEnd, mirror}
-use Rattle.meaning.specs.Decorations.{SameEnd, sameNumber, sameNone}
+use Rattle.meaning.specs.Sets.{End, at, unbounded, Set, empty, span, Under, under, underNone, Over, over, overNone, Member, SameSet, Ordered, ordered, noLower, noUpper, mirrorEnd, mirror, SameEnd, sameNumber, sameNone}
 use Rattle.meaning.proofs.FractionLaws.{le-refl, le-trans, lt-not-le, lt-le-trans, le-or-le, antisymm, neg-le}
 
 pub under-trans : {x y : Fraction} (e : End) → x ≼ y → Under y e → Under x e

@@ -12,9 +12,8 @@ use Rattle.patterns.specs.Rounding.{UpperPattern}
 use Rattle.patterns.proofs.UpLaws.{value-unique}
 use Rattle.patterns.proofs.SignLaws.{infinity-below, opposite-opposite, finite-opposite}
 use Rattle.meaning.specs.Fraction.{Fraction, _≈_}
-use Rattle.meaning.specs.Sets.{End, at, unbounded, empty, span, Inside, SameSet, Ordered}
+use Rattle.meaning.specs.Sets.{End, at, unbounded, empty, span, Inside, SameSet, Ordered, SameEnd, sameNumber}
 use Rattle.meaning.specs.Pairs.{Pair, worth, minusInfinity, Proper, Bare, Canonical, endOf, setOf}
-use Rattle.meaning.specs.Decorations.{SameEnd, sameNumber}
 use Rattle.meaning.specs.Statement.{Outcome, given, Verdict, sound, wrong, Answered₁, first₁, right₁, Answered₂, first₂, second₂, right₂, JudgedBare, bareFive, bareGood, HullOf, Bare₁, Bare₂}
 use Rattle.meaning.specs.Bytes.{Written}
 use Rattle.meaning.specs.Points.{Unary}

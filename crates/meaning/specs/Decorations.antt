@@ -5,7 +5,7 @@ use mathlib.Core.Logic.{_⊎_}
 use Prim.Native.Nat.{ℕ}
 use lib.Dec.{leb}
 use Rattle.meaning.specs.Fraction.{Fraction, _≈_, _⊕_, whole, half, Whole}
-use Rattle.meaning.specs.Sets.{End, at, unbounded, Set, empty, span, Member}
+use Rattle.meaning.specs.Sets.{End, at, unbounded, Set, empty, span, Member, SameEnd}
 use Rattle.meaning.specs.Points.{Unary, neg, abs, ceil, floor, round, roundTiesEven, sign, trunc, add, sub, mul, div, max, min}
 use Rattle.meaning.specs.Results.{Operation, point, convexHull, intersection}
 
@@ -50,11 +50,6 @@ pub data Common : Set → Type 0 where
 -- One point.
 pub data Point : Set → Type 0 where
   one : {a b : Fraction} → a ≈ b → Point (span (at a) (at b))
-
--- Two ends of the same side agree.
-pub data SameEnd : End → End → Type 0 where
-  sameNumber : {a b : Fraction} → a ≈ b → SameEnd (at a) (at b)
-  sameNone : SameEnd unbounded unbounded
 
 pub data LowersAgree : Set → Set → Type 0 where
   lowersAgree : {a b c d : End} → SameEnd a c → LowersAgree (span a b) (span c d)

@@ -9,8 +9,10 @@ pub mod Hull
 pub mod Supremum
 pub mod Decorations
 pub mod Statement
+pub mod Exactness
 pub mod Overlap
 pub mod Bytes
 pub mod Calls
 pub mod Requests
+pub mod ExactRequests
 pub mod Signed

@@ -1,5 +1,5 @@
 -- Sets of fractions that intervals stand for: nothing, or everything between two ends.
-use Rattle.meaning.specs.Fraction.{Fraction, _≼_, negated}
+use Rattle.meaning.specs.Fraction.{Fraction, _≼_, _≈_, negated}
 
 -- An end of a span. Document 01: "An infinite end says that there is no bound".
 pub data End : Type 0 where
@@ -37,6 +37,11 @@ Inside Z W = (x : Fraction) → Member Z x → Member W x
 -- The same members.
 abbrev pub SameSet : Set → Set → Type 0
 SameSet Z W = Inside Z W × Inside W Z
+
+-- Two ends of the same side agree.
+pub data SameEnd : End → End → Type 0 where
+  sameNumber : {a b : Fraction} → a ≈ b → SameEnd (at a) (at b)
+  sameNone : SameEnd unbounded unbounded
 
 -- Two ends in order: "a ≤ b".
 pub data Ordered : End → End → Type 0 where

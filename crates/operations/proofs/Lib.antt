@@ -1,4 +1,2 @@
--- Laws of operation names and numbers.
+-- Laws of operation names.
 pub mod NameLaws
-pub mod NumberLaws
-pub mod AskedLaws

@@ -6,9 +6,9 @@ use Rattle.meaning.specs.Pairs.{Pair, setOf}
 use Rattle.meaning.specs.Results.{Result₁, Result₂}
 use Rattle.meaning.specs.Decorations.{Decoration, Allows₁, Allows₂}
 use Rattle.meaning.specs.Statement.{HullOf}
-use Rattle.operations.specs.Names.{unaryOf, binaryOf}
-use Rattle.operations.specs.declared.names.Unary.{Unary}
-use Rattle.operations.specs.declared.names.Binary.{Binary}
+use Rattle.operation_names.specs.Names.{unaryOf, binaryOf}
+use Rattle.operation_names.specs.declared.names.Unary.{Unary}
+use Rattle.operation_names.specs.declared.names.Binary.{Binary}
 
 module _ {f g : Unary} (e : f ≡ g) where
   pub image-named : (x : Pair) {z : Pair} → HullOf binary64 (Result₁ (unaryOf g) (setOf binary64 x)) z → HullOf binary64 (Result₁ (unaryOf f) (setOf binary64 x)) z

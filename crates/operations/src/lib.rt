@@ -2,14 +2,8 @@
 // (`arith`, `set_op`, `absmax`, `integer`) and on the steps that all share (`operation_steps`).
 mod bare;
 mod decorated;
-mod names;
-mod numbers;
 
 pub use bare::combine;
 pub use bare::image;
 pub use decorated::combine_dec;
 pub use decorated::image_dec;
-pub use names::Binary;
-pub use names::Unary;
-pub use numbers::Asked;
-pub use numbers::numbered;

@@ -7,12 +7,14 @@ use native.Mathlib.Nat.{le-antisymm, le-trans, lt-irrefl, lt-of-mul-lt-mul-right
 use native.Mathlib.Omega.{arith}
 use lib.Dec.{lit<}
 use lib.Pow.{pow-mono, pow-pos}
+use Rattle.truth.proofs.AnswerLaws.{answers-once}
 use Rattle.patterns.specs.Format.{Format}
+use Rattle.patterns.specs.Rounding.{Representable}
 use Rattle.patterns.proofs.UpLaws.{roundsUp-unique, roundsDown-unique}
 use Rattle.patterns.proofs.ValueLaws.{pow-next}
 use Rattle.packing.specs.Bracket.{Brackets, FineEnough, Lowered}
 use Rattle.packing.specs.Magnitude.{Normalised, Unpacks}
-use Rattle.packing.specs.Packing.{Packable, PacksUp, PacksDown}
+use Rattle.packing.specs.Packing.{Packable, PacksUp, PacksDown, TellsRepresentable}
 use Rattle.packing.proofs.BracketLaws.{exact-brackets}
 
 -- Two truth values that say the same are equal.
@@ -104,3 +106,8 @@ module _ {frac codes m e : ℕ} (packable : Packable frac codes m e) where
   packs-down-once {x} h k =
       let held = bracketed m e x in
       roundsDown-unique format (h format refl refl (held .n) (held .d) (held .some) (held .brackets)) (k format refl refl (held .n) (held .d) (held .some) (held .brackets))
+
+  pub representable-once : {x t t′ : Bool} → TellsRepresentable frac codes m e x t → TellsRepresentable frac codes m e x t′ → t ≡ t′
+  representable-once {x} {t} {t′} h k =
+      let held = bracketed m e x in
+      answers-once (Representable format (held .n) (held .d)) t t′ (h format refl refl (held .n) (held .d) (held .some) (held .brackets)) (k format refl refl (held .n) (held .d) (held .some) (held .brackets))

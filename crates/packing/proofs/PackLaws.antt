@@ -1,18 +1,25 @@
 -- A bracket of at most frac + 1 digits, packed at its exponent, is its value rounded: one law for every format.
-use mathlib.Core.Bool.{Bool, true, false, false≢true}
-use mathlib.Core.Path.{_≡_, sym, _∙_, ap, ap₂, subst}
+use mathlib.Core.Bool.{Bool, true, false, false≢true, _&&_}
+use mathlib.Core.Path.{_≡_, refl, sym, _∙_, ap, ap₂, subst, subst₂}
 use mathlib.Core.Logic.{inl, inr, ⊎-elim}
 use Prim.Native.Nat.{ℕ, min, _+_, _*_, _-_, _^_, _<_, _≤_}
 use native.Mathlib.Omega.{arith}
-use native.Mathlib.Nat.{le-of-eq, le-trans, lt-of-le-of-lt, lt-of-lt-of-le, min-le-left, min-le-right, mul-le-mul-right, mul-lt-mul-of-pos-right, sub-zero}
+use native.Mathlib.Nat.{le-antisymm, le-of-eq, le-trans, lt-irrefl, lt-of-le-of-lt, lt-of-lt-of-le, min-le-left, min-le-right, mul-le-mul-right, mul-lt-mul-of-pos-right, sub-zero}
 use lib.Arith.{lt-of-le-ne}
+use Rattle.truth.specs.Answers.{Answers, denied}
+use Rattle.truth.proofs.AnswerLaws.{answers-iff}
 use Rattle.patterns.specs.Format.{Format, infinity}
 use Rattle.patterns.specs.Value.{value}
-use Rattle.patterns.specs.Rounding.{RoundsUp, RoundsDown}
-use Rattle.patterns.proofs.ValueLaws.{packed, value-mono, value-strict}
+use Rattle.patterns.specs.Rounding.{RoundsUp, RoundsDown, Representable}
+use Rattle.patterns.proofs.ValueLaws.{le-or-lt, packed, value-mono, value-strict}
 use Rattle.patterns.proofs.UpLaws.{infinity-positive}
 use Rattle.packing.specs.Bracket.{Brackets, FineEnough}
-use Rattle.packing.specs.Packing.{PacksUp, PacksDown}
+use Rattle.packing.specs.Packing.{PacksUp, PacksDown, TellsRepresentable}
+
+-- Both of two truth values.
+both-told : (x : Bool) {Q : Type 0} {t : Bool} → Answers Q t → Answers ((x ≡ true) × Q) (x && t)
+both-told true h = answers-iff (λ q. (refl, q)) (λ k. k .1) h
+both-told false h = denied (λ k. false≢true (k .0))
 
 -- A pattern that is not below n / d and whose smaller ones are, cut at infinity's.
 lands-up : (F : Format) (n d p : ℕ) → n ≤ value (F .frac) p * d → ((c : ℕ) → c < p → value (F .frac) c * d < n)
@@ -51,6 +58,31 @@ module _ (F : Format) {n d q k : ℕ} {x : Bool} (some : 0 < d) (fine : FineEnou
         lt-of-lt-of-le (b .high) (mul-le-mul-right d (le-trans (le-of-eq (sym next)) (value-mono (F .frac) (omega arith))));
   }
 
+  -- A value is a pattern's worth if it was not cut, and if the pattern of its digits is finite. No pattern lies between two neighbours.
+  told-representable : {t : Bool} → Answers (k * 2 ^ F .frac + q < infinity F) t → Answers (Representable F n d) (x && t)
+  told-representable finite = answers-iff forth back (both-told x finite)
+    where
+      forth : (x ≡ true) × (k * 2 ^ F .frac + q < infinity F) → Representable F n d
+      forth h = record { pattern = k * 2 ^ F .frac + q; finite = h .1; eq = ap (λ (v : ℕ). v * d) here ∙ b .told .0 (h .0) }
+
+      not-above : (r : Representable F n d) → r .pattern ≤ k * 2 ^ F .frac + q
+      not-above r =
+          ⊎-elim (λ more. absurd (lt-irrefl n (lt-of-lt-of-le (b .high) (le-trans (le-of-eq (ap (λ (v : ℕ). v * d) (sym next)))
+          (le-trans (mul-le-mul-right d (value-mono (F .frac) {b = r .pattern} (omega arith))) (le-of-eq (r .eq)))))))
+          (λ less. omega arith) (le-or-lt (k * 2 ^ F .frac + (q + 1)) (r .pattern))
+
+      not-below : (r : Representable F n d) → k * 2 ^ F .frac + q ≤ r .pattern
+      not-below r =
+          ⊎-elim (λ le. le)
+          (λ less. absurd (lt-irrefl n (lt-of-le-of-lt (le-of-eq (sym (r .eq)))
+          (lt-of-lt-of-le (mul-lt-mul-of-pos-right (value-strict (F .frac) less) some) (le-trans (le-of-eq (ap (λ (v : ℕ). v * d) here)) (b .low))))))
+          (le-or-lt (k * 2 ^ F .frac + q) (r .pattern))
+
+      back : Representable F n d → (x ≡ true) × (k * 2 ^ F .frac + q < infinity F)
+      back r =
+          let same : k * 2 ^ F .frac + q ≡ r .pattern = le-antisymm (not-below r) (not-above r) in
+          (b .told .1 (ap (λ (v : ℕ). v * d) (sym here) ∙ ap (λ (c : ℕ). value (F .frac) c * d) same ∙ r .eq), lt-of-le-of-lt (le-of-eq same) (r .finite))
+
 -- The same, told by the width of the fraction and the exponent field of infinity alone.
 module _ {frac codes q k : ℕ} (fine : FineEnough frac q k) (short : q < 2 ^ (frac + 1)) where
   module _ (F : Format) (fracs : F .frac ≡ frac) (codess : F .codes ≡ codes) where
@@ -84,3 +116,8 @@ module _ {frac codes q k : ℕ} (fine : FineEnough frac q k) (short : q < 2 ^ (f
   packs-down lands F fracs codess n d some b =
       subst (RoundsDown F n d) (sym (lands ∙ ap₂ min (pattern-in F fracs codess q) (ap (λ (i : ℕ). i - 1) (infinity-in F fracs codess))))
       (cut-down F some (fine-in F fracs codess) (short-in F fracs codess) b)
+
+  pub packs-representable : (x : Bool) {t : Bool} → Answers (k * 2 ^ frac + q < codes * 2 ^ frac) t → TellsRepresentable frac codes q k x (x && t)
+  packs-representable x {t} finite F fracs codess n d some b =
+      told-representable F some (fine-in F fracs codess) (short-in F fracs codess) b
+      (subst₂ (λ (p i : ℕ). Answers (p < i) t) (pattern-in F fracs codess q) (infinity-in F fracs codess) finite)

@@ -2,8 +2,9 @@
 use mathlib.Core.Bool.{Bool}
 use mathlib.Core.Path.{_≡_}
 use Prim.Native.Nat.{ℕ, _+_, _^_, _<_, _≤_}
+use Rattle.truth.specs.Answers.{Answers}
 use Rattle.patterns.specs.Format.{Format}
-use Rattle.patterns.specs.Rounding.{RoundsUp, RoundsDown}
+use Rattle.patterns.specs.Rounding.{RoundsUp, RoundsDown, Representable}
 use Rattle.packing.specs.Bracket.{Brackets, Rebrackets, FineEnough}
 
 -- The widths of formats, and the exponents that fit the machine's words.
@@ -25,6 +26,12 @@ abbrev pub PacksDown : (frac codes significand exponent : ℕ) (exact : Bool) (r
 PacksDown frac codes significand exponent exact r =
     (F : Format) → F .frac ≡ frac → F .codes ≡ codes
     → (n d : ℕ) → 0 < d → Brackets n d significand exponent exact → RoundsDown F n d r
+
+-- `told` says of every value in the bracket whether it is the worth of some finite pattern.
+abbrev pub TellsRepresentable : (frac codes significand exponent : ℕ) (exact told : Bool) → Type 0
+TellsRepresentable frac codes significand exponent exact told =
+    (F : Format) → F .frac ≡ frac → F .codes ≡ codes
+    → (n d : ℕ) → 0 < d → Brackets n d significand exponent exact → Answers (Representable F n d) told
 
 -- The second bracket holds what the first does, in at most frac + 1 digits.
 pub record Fitted (frac m e : ℕ) (x : Bool) (m′ e′ : ℕ) (x′ : Bool) : Type 0 where

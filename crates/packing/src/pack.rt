@@ -1,8 +1,9 @@
 // Brackets packed into magnitude patterns, rounded either way.
 ghost use mathlib.Core.Path.{_≡_};
 ghost use Prim.Native.Nat.{min, _+_, _-_, _*_, _^_, _<_, _≤_};
+ghost use Rattle.truth.specs.Answers.{Answers};
 ghost use Rattle.packing.specs.Bracket.{FineEnough};
-ghost use Rattle.packing.specs.Packing.{Packable, PacksUp, PacksDown, Fitted};
+ghost use Rattle.packing.specs.Packing.{Packable, PacksUp, PacksDown, TellsRepresentable, Fitted};
 use crate::bracket::Approx;
 use crate::bracket::cut;
 use crate::digits::excess;
@@ -56,4 +57,25 @@ pub fn pack_down(frac: u32, codes: u32, a: Approx) -> u64
 {
     let c = fitted(frac, a);
     capped(frac, codes, AT_LARGEST, c.significand, c.exponent)
+}
+
+// Whether the pattern of significand * 2^exponent is a finite number's.
+fn stays_finite(frac: u32, codes: u32, significand: u64, exponent: u32) -> bool
+    requires { ⌜ (frac ≤ 52) × (codes < 2 ^ 11) × (significand ≤ 2 ^ (frac + 1)) ⌝ }
+    ensures { λ r. ⌜ Answers (exponent * 2 ^ frac + significand < codes * 2 ^ frac) r ⌝ }
+{
+    if codes <= exponent {
+        return false;
+    }
+    let pattern = ((exponent as u64) << frac) + significand;
+    pattern < ((codes as u64) << frac)
+}
+
+// Whether the value in the bracket is a finite pattern's own, so that nothing is rounded either way.
+pub fn is_representable(frac: u32, codes: u32, a: Approx) -> bool
+    requires { ⌜ Packable frac codes (a .significand) (a .exponent) ⌝ }
+    ensures { λ r. ⌜ TellsRepresentable frac codes (a .significand) (a .exponent) (a .exact) r ⌝ }
+{
+    let c = fitted(frac, a);
+    c.exact & stays_finite(frac, codes, c.significand, c.exponent)
 }

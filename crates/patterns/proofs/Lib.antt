@@ -2,3 +2,4 @@
 pub mod ValueLaws
 pub mod SignLaws
 pub mod UpLaws
+pub mod ToldLaws

@@ -20,16 +20,16 @@ module _ (F : Format) {b : ℕ} (finite : b < infinity F) where
   below-sign : b < signBit F
   below-sign = lt-trans finite (SignLaws.infinity-below F)
 
-  plus-is : plus F b ≡ value (F .frac) b
+  pub plus-is : plus F b ≡ value (F .frac) b
   plus-is = SignLaws.plus-positive F below-sign
 
-  minus-is : minus F b ≡ 0
+  pub minus-is : minus F b ≡ 0
   minus-is = SignLaws.minus-positive F below-sign
 
-  plus-less : plus F (signBit F + b) ≡ 0
+  pub plus-less : plus F (signBit F + b) ≡ 0
   plus-less = SignLaws.plus-negative F below-sign
 
-  minus-less : minus F (signBit F + b) ≡ value (F .frac) b
+  pub minus-less : minus F (signBit F + b) ≡ value (F .frac) b
   minus-less = SignLaws.minus-negative F below-sign
 
   -- What it is for such a pattern not to be below an exact value, in terms of its magnitude's value.

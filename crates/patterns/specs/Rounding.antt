@@ -4,6 +4,7 @@ use mathlib.Core.Path.{_≡_}
 use mathlib.Core.Logic.{_⊎_}
 use Prim.Native.Nat.{ℕ, _+_, _*_, _^_, _<_, _≤_}
 use lib.Dec.{ltb}
+use Rattle.truth.specs.Answers.{Answers}
 use Rattle.patterns.specs.Format.{Format, infinity, signBit}
 use Rattle.patterns.specs.Value.{value, magnitude, plus, minus, Finite}
 
@@ -27,6 +28,21 @@ pub record Up (F : Format) (e : Exact) (r : ℕ) : Type 0 where
   pub upper : UpperPattern F r
   pub above : Finite F r → NotAbove F e r
   pub least : (c : ℕ) → Finite F c → NotAbove F e c → Finite F r × (plus F r + minus F c ≤ plus F c + minus F r)
+
+-- The finite pattern b is worth the exact value itself.
+pub record Equals (F : Format) (e : Exact) (b : ℕ) : Type 0 where
+  pub finite : Finite F b
+  pub eq : e .positive + minus F b * e .over ≡ e .negative + plus F b * e .over
+
+-- Some finite pattern is.
+pub record Reached (F : Format) (e : Exact) : Type 0 where
+  pub pattern : ℕ
+  pub equals : Equals F e pattern
+
+-- Ticket 2: upward rounding that "also tells whether its result equals the exact one".
+pub record UpTold (F : Format) (e : Exact) (r : ℕ) (exact : Bool) : Type 0 where
+  pub up : Up F e r
+  pub told : Answers (Equals F e r) exact
 
 -- The exact sum of two finite patterns.
 unfoldable pub sumOf : Format → ℕ → ℕ → Exact
@@ -60,3 +76,9 @@ pub record RoundsDown (F : Format) (n d b : ℕ) : Type 0 where
   pub within : b < infinity F
   pub below : value (F .frac) b * d ≤ n
   pub greatest : (c : ℕ) → b < c → c < infinity F → n < value (F .frac) c * d
+
+-- n / d is the worth of some finite magnitude pattern.
+pub record Representable (F : Format) (n d : ℕ) : Type 0 where
+  pub pattern : ℕ
+  pub finite : pattern < infinity F
+  pub eq : value (F .frac) pattern * d ≡ n

@@ -1,8 +1,10 @@
 -- A request and a codec that are answered, bare and decorated: [1, 1] + [1, 1] = [2, 2], and [1, 1] in the other byte order.
+use mathlib.Core.Bool.{true}
 use mathlib.Core.Path.{_≡_, refl}
 use mathlib.Core.List.{List, _∷_, _++_}
 use Prim.Native.Nat.{ℕ}
 use native.Mathlib.Omega.{arith}
+use lib.Dec.{lit≤}
 use Rattle.patterns.specs.Format.{binary64, infinity, signBit}
 use Rattle.patterns.specs.Value.{value, magnitude, plus, minus, opposite}
 use Rattle.meaning.specs.Fraction.{_⊕_, _⊗_}
@@ -14,9 +16,13 @@ use Rattle.meaning.specs.Statement.{DecPair, given, noRefusal, sound, HullOf, R
 use Rattle.meaning.specs.Bytes.{ByteOrder, bigEndian, littleEndian, JudgedBytes, bytesGood, JudgedDecBytes, decBytesGood, canonicalEnds, ReadDecorated, readInterval, readPair, writePair, writeDecorated, Written}
 use Rattle.meaning.specs.Calls.{passed}
 use Rattle.meaning.specs.Requests.{binary, operationNumber, zeros, bareSize, decoratedSize, firstOperand, BareRequest, DecoratedRequest, BareCodec, DecoratedCodec}
+use Rattle.meaning.specs.Exactness.{ExactPair, ExactHullOf}
+use Rattle.meaning.specs.ExactRequests.{exactSize, writeExact, ExactRequest}
 use Rattle.uniqueness.proofs.PairLaws.{bare-not-nans}
 use Rattle.theorem3.specs.Answer.{adding}
 use Rattle.cases.specs.Table.{only, one, two, decoratedBy}
+use Rattle.cases.specs.ExactTable.{flagged}
+use Rattle.cases.proofs.ExactTests.{exact-hull-tested}
 use Rattle.cases.proofs.RowTests.{arithmetic-hull}
 use Rattle.cases.proofs.DecoratedTests.{decorated-tested}
 use Rattle.meaning.proofs.CalledLaws.{called-by}
@@ -25,6 +31,13 @@ use Rattle.request_laws.proofs.WrongCalls.{Shown, shown-at}
 one-and-one : Bare binary64 (only one) × Bare binary64 (only one) × HullOf binary64 (Result₂ (point add) (setOf binary64 (only one)) (setOf binary64 (only one))) (only two)
 unfolding infinity signBit value magnitude plus minus opposite _⊕_ _⊗_ minusInfinity endOf setOf
 one-and-one = arithmetic-hull binary64 adding (only one) (only one) (only two) tt
+
+abbrev exactTwo : ExactPair
+exactTwo = flagged (only two) true true
+
+exactly-two : ExactHullOf binary64 (Result₂ (point add) (setOf binary64 (only one)) (setOf binary64 (only one))) exactTwo
+unfolding infinity signBit value magnitude plus minus opposite _⊕_ _⊗_ minusInfinity endOf setOf
+exactly-two = exact-hull-tested binary64 adding (only one) (only one) exactTwo tt .2
 
 one-canonical : Canonical binary64 (only one)
 unfolding signBit
@@ -49,6 +62,24 @@ bare-sum =
 
 pub bare-shown : Shown (BareRequest binary64) bigEndian (firstOperand bareSize)
 bare-shown = shown-at 0 bareSum (zeros bareSize) (writePair bigEndian (only two)) bare-sum refl refl refl refl
+
+-- The same with the exactness of each end.
+exact-sum : ExactRequest binary64 bareSum (zeros exactSize) noRefusal (writeExact exactTwo)
+exact-sum =
+    called-by (given (writeExact exactTwo))
+    (passed refl
+    (passed refl
+    (passed (lit≤ tt, lit≤ tt)
+    (record {
+      asked = binary (point add);
+      asks = record { is = refl };
+      outcome =
+          right₂ (bytesGood one-canonical) (bytesGood one-canonical)
+          (record { answer = exactTwo; right = exactly-two; written = refl });
+    }))))
+
+pub exact-shown : Shown (ExactRequest binary64) bigEndian (firstOperand bareSize)
+exact-shown = shown-at 0 bareSum (zeros exactSize) (writeExact exactTwo) exact-sum refl refl refl refl
 
 -- The same with decorations.
 abbrev pub common : ℕ → DecPair

@@ -5,13 +5,14 @@ use Prim.Native.Nat.{ℕ}
 use Rattle.patterns.specs.Format.{Format}
 use Rattle.meaning.specs.Bytes.{ByteOrder}
 use Rattle.meaning.specs.Requests.{BareRequest, DecoratedRequest, BareCodec, DecoratedCodec}
+use Rattle.meaning.specs.ExactRequests.{ExactRequest}
 use Rattle.meaning.proofs.Unique.{one-answer₁, written-once}
 use Rattle.uniqueness.proofs.VerdictLaws.{judged-bytes-once, judged-decBytes-once}
 use Rattle.uniqueness.proofs.ReadingLaws.{read-once}
 use Rattle.meaning.specs.Calls.{Left}
 use Rattle.request_laws.specs.Calls.{Statement, Leaves}
 use Rattle.meaning.proofs.CalledLaws.{called-once}
-use Rattle.request_laws.proofs.OutcomeLaws.{bare-outcome-once, decorated-outcome-once, requested-once}
+use Rattle.request_laws.proofs.OutcomeLaws.{bare-outcome-once, exact-outcome-once, decorated-outcome-once, requested-once}
 
 -- A statement of what a call leaves, for any input and any lent output, allows one thing.
 abbrev pub OneLeft : Statement → Type 0
@@ -20,6 +21,9 @@ OneLeft S = (input before : List ℕ) (l m : Left) → Leaves S input before l �
 module _ (F : Format) where
   pub bare-request-once : OneLeft (BareRequest F)
   bare-request-once input before = called-once (requested-once (bare-outcome-once F))
+
+  pub exact-request-once : OneLeft (ExactRequest F)
+  exact-request-once input before = called-once (requested-once (exact-outcome-once F))
 
   pub decorated-request-once : OneLeft (DecoratedRequest F)
   decorated-request-once input before = called-once (requested-once (decorated-outcome-once F))

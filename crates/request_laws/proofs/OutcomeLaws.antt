@@ -8,6 +8,8 @@ use Rattle.meaning.specs.Results.{Result₁, Result₂}
 use Rattle.meaning.specs.Statement.{Outcome, DecPair}
 use Rattle.meaning.specs.Bytes.{bigEndian, readPair, ReadDecorated}
 use Rattle.meaning.specs.Requests.{Asked, unary, binary, overlap, BareOutcome, Read₁, Read₂, DecoratedOutcome, Requested, firstOperand, secondOperand}
+use Rattle.meaning.specs.ExactRequests.{ExactOutcome}
+use Rattle.meaning.proofs.ExactLaws.{exact-once}
 use Rattle.meaning.proofs.Unique.{One, one-answer₁, one-answer₂, one-sound-answer, written-once, hull-once}
 use Rattle.uniqueness.proofs.VerdictLaws.{judged-bytes-once, judged-decBytes-once}
 use Rattle.uniqueness.proofs.DecoratedLaws.{right-decorated-once}
@@ -27,6 +29,15 @@ module _ (F : Format) where
       (written-once (hull-once F (Result₂ op (setOf F (readPair bigEndian first)) (setOf F (readPair bigEndian second)))))
   bare-outcome-once overlap first second o p =
       one-sound-answer (judged-bytes-once F bigEndian) (λ h k. written-once (λ m n. number-unique (sound-valid F h) (sound-valid F k)))
+
+  pub exact-outcome-once : (q : Asked) (first second : List ℕ) → One (ExactOutcome F q first second)
+  exact-outcome-once (unary op) first second o p =
+      one-answer₁ (judged-bytes-once F bigEndian first)
+      (written-once (exact-once F (Result₁ op (setOf F (readPair bigEndian first)))))
+  exact-outcome-once (binary op) first second o p =
+      one-answer₂ (judged-bytes-once F bigEndian)
+      (written-once (exact-once F (Result₂ op (setOf F (readPair bigEndian first)) (setOf F (readPair bigEndian second)))))
+  exact-outcome-once overlap first second o p = λ h k. absurd h
 
   read₁-once : {Right : DecPair → List ℕ → Type 0} {first : List ℕ} → ((x : DecPair) → One (Right x)) → One (Read₁ F Right first)
   read₁-once {Right} {first} one z w h k =

@@ -2,12 +2,16 @@
 use Rattle.patterns.specs.Format.{binary64}
 use Rattle.meaning.specs.Bytes.{bigEndian, littleEndian}
 use Rattle.meaning.specs.Requests.{bareSize, decoratedSize, firstOperand, BareRequest, DecoratedRequest, BareCodec, DecoratedCodec}
-use Rattle.request_laws.proofs.OneOutcome.{bare-request-once, decorated-request-once, bare-codec-once, decorated-codec-once}
+use Rattle.meaning.specs.ExactRequests.{ExactRequest}
+use Rattle.request_laws.proofs.OneOutcome.{bare-request-once, exact-request-once, decorated-request-once, bare-codec-once, decorated-codec-once}
 use Rattle.request_laws.proofs.WrongCalls.{NoneWrong, none-wrong}
-use Rattle.request_laws.proofs.Examples.{whole, bare-shown, decorated-shown, bare-shown-big, bare-shown-little, decorated-shown-big, decorated-shown-little}
+use Rattle.request_laws.proofs.Examples.{whole, bare-shown, exact-shown, decorated-shown, bare-shown-big, bare-shown-little, decorated-shown-big, decorated-shown-little}
 
 pub no-wrong-bare : NoneWrong (BareRequest binary64) bigEndian (firstOperand bareSize)
 no-wrong-bare = none-wrong (bare-request-once binary64) bare-shown
+
+pub no-wrong-exact : NoneWrong (ExactRequest binary64) bigEndian (firstOperand bareSize)
+no-wrong-exact = none-wrong (exact-request-once binary64) exact-shown
 
 pub no-wrong-decorated : NoneWrong (DecoratedRequest binary64) bigEndian (firstOperand decoratedSize)
 no-wrong-decorated = none-wrong (decorated-request-once binary64) decorated-shown

@@ -45,8 +45,8 @@ pub fn rounded(o: Operation, a: u64, b: u64) -> u64
     ensures { λ r. ⌜ Up binary64 (exactOf o a b) r ⌝ }
 {
     match o {
-        Operation::Sum => add_ru(a, b),
-        Operation::Product => mul_ru(a, b),
-        Operation::Quotient => div_ru(a, b),
+        Operation::Sum => add_ru(a, b).pattern,
+        Operation::Product => mul_ru(a, b).pattern,
+        Operation::Quotient => div_ru(a, b).pattern,
     }
 }

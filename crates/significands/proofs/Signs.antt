@@ -7,11 +7,13 @@ use native.Mathlib.Omega.{arith}
 use lib.Bits.{bitOr, or-shifted}
 use lib.Dec.{ltb}
 use lib.Pow.{pow-pos}
+use Rattle.truth.specs.Answers.{Answers, affirmed}
 use Rattle.patterns.specs.Format.{Format, binary64, infinity, signBit}
 use Rattle.patterns.specs.Value.{value, magnitude, plus, minus, choose}
-use Rattle.patterns.specs.Rounding.{Exact, Up, RoundsUp, RoundsDown, productOf, quotientOf, divided}
+use Rattle.patterns.specs.Rounding.{Exact, Up, Reached, Representable, RoundsUp, RoundsDown, productOf, quotientOf, divided}
 use Rattle.patterns.proofs.ValueLaws.{value-positive, value-zero}
 use Rattle.patterns.proofs.UpLaws.{infinity-positive, up-positive, up-negative, up-negative-zero, up-same}
+use Rattle.patterns.proofs.ToldLaws.{reached-positive, reached-negative, reached-same}
 use Rattle.significands.specs.SignedExact.{signed}
 
 -- the machine's test that two truths differ
@@ -72,6 +74,17 @@ quotient-same true false v p w = (omega arith, refl)
 quotient-same false true v p w = (omega arith, refl)
 quotient-same false false v p w = (omega arith, refl)
 
+-- the exactness of a signed value is that of its magnitude
+pub reached-signed : (F : Format) (s : Bool) {n d : ℕ} {x : Bool} → Answers (Representable F n d) x → Answers (Reached F (signed s n d)) x
+reached-signed F true = reached-negative F
+reached-signed F false = reached-positive F
+
+-- nothing is exact
+zero-reached : (F : Format) (s : Bool) {n : ℕ} (d : ℕ) → n ≡ 0 → Answers (Reached F (signed s n d)) true
+zero-reached F s d none =
+    reached-signed F s
+    (affirmed (record { pattern = 0; finite = infinity-positive F; eq = ap (λ (v : ℕ). v * d) (value-zero (F .frac)) ∙ zero-mul d ∙ sym none }))
+
 module _ (F : Format) (a b : ℕ) where
   abbrev differ : Bool
   differ = xor (ltb a (signBit F)) (ltb b (signBit F))
@@ -102,3 +115,25 @@ module _ (F : Format) (a b : ℕ) where
 
   pub quotient-zero : 0 < worth b → magnitude F a ≡ 0 → Up F (quotientOf F a b) 0
   quotient-zero some none = quotient-up (zero-up F differ (ap (λ (v : ℕ). v * 2 ^ F .point) (worthless a none) ∙ zero-mul (2 ^ F .point)) some)
+
+  -- whether the same are the worth of some pattern
+  pub product-reached : {x : Bool} → Answers (Reached F (signed differ (worth a * worth b) (2 ^ F .point))) x → Answers (Reached F (productOf F a b)) x
+  unfolding productOf plus minus
+  product-reached told =
+      let same = product-same (ltb a (signBit F)) (ltb b (signBit F)) (worth a) (worth b) (2 ^ F .point) in
+      reached-same F _ _ (same .0) (same .1) told
+
+  pub quotient-reached : {x : Bool} → Answers (Reached F (signed differ (worth a * 2 ^ F .point) (worth b))) x → Answers (Reached F (quotientOf F a b)) x
+  unfolding quotientOf plus minus
+  quotient-reached told =
+      let same = quotient-same (ltb a (signBit F)) (ltb b (signBit F)) (worth a) (2 ^ F .point) (worth b) in
+      reached-same F _ _ (same .0) (same .1) told
+
+  pub product-first-nothing : magnitude F a ≡ 0 → Answers (Reached F (productOf F a b)) true
+  product-first-nothing none = product-reached (zero-reached F differ (2 ^ F .point) (ap (λ (v : ℕ). v * worth b) (worthless a none) ∙ zero-mul (worth b)))
+
+  pub product-second-nothing : magnitude F b ≡ 0 → Answers (Reached F (productOf F a b)) true
+  product-second-nothing none = product-reached (zero-reached F differ (2 ^ F .point) (ap (λ (v : ℕ). worth a * v) (worthless b none) ∙ mul-zero (worth a)))
+
+  pub quotient-nothing : magnitude F a ≡ 0 → Answers (Reached F (quotientOf F a b)) true
+  quotient-nothing none = quotient-reached (zero-reached F differ (worth b) (ap (λ (v : ℕ). v * 2 ^ F .point) (worthless a none) ∙ zero-mul (2 ^ F .point)))

@@ -3,5 +3,6 @@
 pub mod double;
 pub mod exponent;
 pub mod normal;
+pub mod rounded;
 pub mod sign;
 pub mod units;

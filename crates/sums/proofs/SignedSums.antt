@@ -4,11 +4,13 @@ use mathlib.Core.Path.{_≡_, refl}
 use Prim.Native.Nat.{ℕ, _+_, _-_, _≤_}
 use native.Mathlib.Omega.{arith}
 use lib.Dec.{ltb}
+use Rattle.truth.specs.Answers.{Answers}
 use Rattle.patterns.specs.Format.{Format, signBit}
 use Rattle.patterns.specs.Value.{value, magnitude, plus, minus, choose}
-use Rattle.patterns.specs.Rounding.{Exact, Up, sumOf}
+use Rattle.patterns.specs.Rounding.{Exact, Up, Reached, sumOf}
 use Rattle.patterns.proofs.ValueLaws.{value-mono}
 use Rattle.patterns.proofs.UpLaws.{up-same}
+use Rattle.patterns.proofs.ToldLaws.{reached-same}
 use Rattle.significands.specs.SignedExact.{signed}
 
 -- The sum of v and w, of which s and t say whether they are positive.
@@ -37,3 +39,17 @@ module _ (F : Format) (a b : ℕ) {r : ℕ} where
   pub sum-swap : Up F (sumOf F b a) r → Up F (sumOf F a b) r
   unfolding sumOf
   sum-swap = up-same F _ _ (omega arith) refl
+
+-- Whether the sum is the worth of some pattern.
+module _ (F : Format) (a b : ℕ) {x : Bool} where
+  pub sum-reached : magnitude F b ≤ magnitude F a
+      → Answers (Reached F (signedSum (ltb a (signBit F)) (ltb b (signBit F)) (value (F .frac) (magnitude F a)) (value (F .frac) (magnitude F b)))) x
+      → Answers (Reached F (sumOf F a b)) x
+  unfolding sumOf plus minus
+  sum-reached le told =
+      let (parts, overs) = same (ltb a (signBit F)) (ltb b (signBit F)) (value-mono (F .frac) le) in
+      reached-same F _ _ parts overs told
+
+  pub reached-swap : Answers (Reached F (sumOf F b a)) x → Answers (Reached F (sumOf F a b)) x
+  unfolding sumOf
+  reached-swap = reached-same F _ _ (omega arith) refl

@@ -10,16 +10,8 @@ use Rattle.meaning.specs.Sets.{End, at, unbounded, span, Member, Under, under, 
 use Rattle.meaning.specs.Supremum.{UpperBound, AtMost, atMost, Supremum, Mirrored}
 use Rattle.meaning.proofs.FractionLaws.{le-refl, le-trans, lt-le, lt-not-le, le-or-lt}
 use Rattle.meaning.proofs.SetLaws.{upper-member, upper-beyond, mirror-ordered, member-mirror, mirror-member}
+use Rattle.meaning.proofs.SupremumLaws.{at-most, never-most}
 use Rattle.theorem3.specs.Ends.{pickFraction, greater, greaterEnd}
-
-pub at-most : {q w : Fraction} → AtMost w (at q) → q ≼ w
-at-most (atMost h) = h
-
-pub never-most : {w : Fraction} → AtMost w unbounded → ⊥
-never-most h = elim h [ ]
-
-pub raise : {v w : Fraction} {u : End} → v ≼ w → AtMost v u → AtMost w u
-raise k (atMost l) = atMost (le-trans l k)
 
 -- Each of R is at most one of S.
 abbrev pub Below : (R S : Fraction → Type 0) → Type 0

@@ -12,3 +12,4 @@ pub mod TrueBounds
 pub mod UpEnd
 pub mod Rounding
 pub mod Theorem3
+pub mod ExactTheorem3

@@ -1,29 +1,17 @@
 -- The product's table gives the true upper ends.
 use Rattle.meaning.specs.Fraction.{Fraction, _≼_, _≈_, _⊗_, negated, whole}
-use Rattle.meaning.specs.Sets.{End, at, unbounded, span, Member, Ordered, mirrorEnd}
+use Rattle.meaning.specs.Sets.{End, at, unbounded, span, Member, Ordered, mirrorEnd, SameEnd, sameNumber, sameNone}
 use Rattle.meaning.specs.Classes.{LowerNegative}
-use Rattle.meaning.specs.Decorations.{SameEnd, sameNumber, sameNone}
-use Rattle.meaning.specs.Supremum.{AtMost, atMost, Supremum}
-use Rattle.meaning.proofs.FractionLaws.{le-trans, eq-ge, eq-sym, mul-comm, neg-le}
+use Rattle.meaning.specs.Supremum.{Supremum}
+use Rattle.meaning.proofs.FractionLaws.{mul-comm, neg-le}
 use Rattle.meaning.proofs.SetLaws.{some-member}
+use Rattle.meaning.proofs.SupremumLaws.{same-most, same-sym, sup-same}
 use Rattle.theorem3.specs.declared.Kind.{Kind}
 use Rattle.theorem3.specs.Ends.{productEnd, greaterEnd}
 use Rattle.theorem3.specs.Tables.{productUpper}
 use Rattle.theorem3.proofs.Bounds.{upper-supremum, lower-supremum, greater-most, most-first, most-second}
 use Rattle.theorem3.proofs.Products.{Products, top-times-top, bottom-times-top, both-signs, zero-product, exchanged, mirrored-both, mul-neg-neg}
 use Rattle.theorem3.proofs.KindLaws.{KindOf, ofM, ofN, ofP, ofZ, mirror-positive, not-negative, not-positive, only-zero}
-
--- The same end is a true bound of the same sets.
-pub same-most : {w : Fraction} {u v : End} → SameEnd u v → AtMost w u → AtMost w v
-same-most (sameNumber e) (atMost h) = atMost (le-trans (eq-ge e) h)
-same-most sameNone h = h
-
-pub same-sym : {u v : End} → SameEnd u v → SameEnd v u
-same-sym (sameNumber e) = sameNumber (eq-sym e)
-same-sym sameNone = sameNone
-
-pub sup-same : {R : Fraction → Type 0} {u v : End} → SameEnd u v → Supremum R u → Supremum R v
-sup-same e s = record { bounds = λ w h. s .bounds w (same-most (same-sym e) h); least = λ w h. same-most e (s .least w h) }
 
 mirrored-ends : (a c : End) → SameEnd (productEnd (mirrorEnd a) (mirrorEnd c)) (productEnd a c)
 mirrored-ends (at p) (at q) = sameNumber (mul-neg-neg p q)

@@ -6,8 +6,9 @@ use Rattle.meaning.specs.Sets.{End, at, unbounded}
 use Rattle.meaning.specs.Classes.{UpperPositive, upperNumber, upperNone}
 use Rattle.meaning.specs.Supremum.{UpperBound, AtMost, atMost, Supremum, Mirrored}
 use Rattle.meaning.proofs.FractionLaws.{le-refl, le-trans, lt-le, lt-not-le, le-or-lt, le-or-le, not-lt, le-lt-trans, eq-refl, eq-le, eq-ge, eq-trans, eq-sym, antisymm, neg-le, neg-lt, mul-right, mul-left, mul-comm, mul-zero, mul-eq-right, mul-eq-left}
+use Rattle.meaning.proofs.SupremumLaws.{at-most, never-most}
 use Rattle.theorem3.specs.Ends.{productEnd, greaterEnd}
-use Rattle.theorem3.proofs.Bounds.{at-most, never-most, Below, same-supremum, attained, greater-most, most-first, most-second}
+use Rattle.theorem3.proofs.Bounds.{Below, same-supremum, attained, greater-most, most-first, most-second}
 use Rattle.theorem3.proofs.Scaling.{scaled}
 
 -- Products of a member of A and one of B.

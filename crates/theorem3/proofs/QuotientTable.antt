@@ -1,11 +1,11 @@
 -- The quotient's table gives the true upper ends.
 use Rattle.meaning.specs.Fraction.{Fraction, _≼_, _≺_, _≈_, _⊗_, negated, whole}
-use Rattle.meaning.specs.Sets.{End, at, unbounded, Set, span, Member, Inside, Over, over, overNone, Ordered, ordered, noUpper, mirrorEnd, mirror}
+use Rattle.meaning.specs.Sets.{End, at, unbounded, Set, span, Member, Inside, Over, over, overNone, Ordered, ordered, noUpper, mirrorEnd, mirror, SameEnd, sameNumber, sameNone}
 use Rattle.meaning.specs.Classes.{classM, classN0, classN1, classP0, classP1, LowerNegative, lowerNumber, lowerNone, UpperPositive, upperNumber, upperNone}
-use Rattle.meaning.specs.Decorations.{SameEnd, sameNumber, sameNone}
 use Rattle.meaning.specs.Supremum.{Supremum}
 use Rattle.meaning.proofs.FractionLaws.{le-refl, le-trans, lt-le, lt-not-le, eq-refl, eq-ge, eq-sym, eq-trans, neg-lt, neg-eq, mul-zero, mul-eq-left}
 use Rattle.meaning.proofs.SetLaws.{some-member, mirror-ordered, member-mirror, mirror-member}
+use Rattle.meaning.proofs.SupremumLaws.{sup-same}
 use Rattle.theorem3.specs.declared.Kind.{Kind}
 use Rattle.theorem3.specs.Ends.{reciprocal, productEnd, quotientEnd}
 use Rattle.theorem3.specs.Tables.{mirrorKind, quotientUpper}
@@ -13,7 +13,6 @@ use Rattle.theorem3.proofs.Bounds.{Below, same-supremum, no-supremum, u
 use Rattle.theorem3.proofs.Scaling.{recip-positive}
 use Rattle.theorem3.proofs.Products.{Products, top-times-top, bottom-times-top, zero-product, mul-neg-neg}
 use Rattle.theorem3.proofs.KindLaws.{KindOf, ofM, ofN, ofP, ofZ, mirror-positive, mirror-negative, mirror-kind, only-zero}
-use Rattle.theorem3.proofs.ProductTable.{sup-same}
 use Rattle.theorem3.proofs.Reciprocals.{Reciprocals, recips-not-negative, recip-top, recip-no-top, recip-bottom, turn, unturn, recip-negated, some-recip}
 
 -- Products of members of X and reciprocals of members of Y.

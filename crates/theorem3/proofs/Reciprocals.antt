@@ -7,8 +7,9 @@ use Rattle.meaning.specs.Classes.{UpperPositive, upperNumber, upperNone}
 use Rattle.meaning.specs.Supremum.{UpperBound, atMost, Supremum, Mirrored}
 use Rattle.meaning.proofs.FractionLaws.{le-trans, lt-le, lt-not-le, le-or-lt, not-lt, lt-le-trans, le-lt-trans, eq-le, eq-ge, eq-trans, eq-sym, neg-le, neg-lt, neg-eq, antisymm, mul-left, mul-comm, mul-assoc, mul-one, mul-eq-right, mul-eq-left}
 use Rattle.meaning.proofs.SetLaws.{next, lower-member, upper-member, upper-beyond, member-mirror, mirror-member, below-next}
+use Rattle.meaning.proofs.SupremumLaws.{at-most, never-most}
 use Rattle.theorem3.specs.Ends.{reciprocal, recipEnd, greater}
-use Rattle.theorem3.proofs.Bounds.{at-most, never-most, attained, greater-first, greater-second}
+use Rattle.theorem3.proofs.Bounds.{attained, greater-first, greater-second}
 use Rattle.theorem3.proofs.Scaling.{recip-times, recip-positive, divide}
 use Rattle.theorem3.proofs.Products.{NotNegative, mul-neg-neg}
 

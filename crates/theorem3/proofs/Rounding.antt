@@ -17,7 +17,7 @@ use Rattle.meaning.specs.Fraction.{Fraction}
 use Rattle.meaning.specs.Sets.{End, at, unbounded}
 use Rattle.meaning.specs.Supremum.{UpperEnd}
 use Rattle.meaning.proofs.PairLaws.{infinity-not-finite}
-use Rattle.theorem3.proofs.Bounds.{never-most}
+use Rattle.meaning.proofs.SupremumLaws.{never-most}
 use Rattle.theorem3.proofs.UpEnd.{Units, up-end}
 
 -- The least number below n at which the test holds, or n.

@@ -12,8 +12,8 @@ use Rattle.meaning.specs.Fraction.{Fraction, _≼_, _≺_, _≈_, _⊗_, whole}
 use Rattle.meaning.specs.Sets.{End, at, unbounded}
 use Rattle.meaning.specs.Supremum.{AtMost, atMost, Supremum}
 use Rattle.meaning.proofs.FractionLaws.{le-trans, lt-le, lt-not-le, eq-le, eq-trans, eq-sym, mul-right, mul-comm, mul-assoc, mul-one, mul-eq-left}
+use Rattle.meaning.proofs.SupremumLaws.{at-most, never-most}
 use Rattle.theorem3.specs.Ends.{reciprocal, signedOver, productEnd}
-use Rattle.theorem3.proofs.Bounds.{at-most, never-most}
 
 -- The distance of up and down, less one.
 gap : Fraction → ℕ

@@ -13,7 +13,7 @@ use Rattle.theorem3.proofs.TrueBounds.{bounds-right, neg-bounds-right}
 use Rattle.theorem3.proofs.Rounding.{rounded}
 
 -- The answer: true bounds by the tables, rounded outward.
-pub answer : Format → Bounds → Pair
+unfoldable pub answer : Format → Bounds → Pair
 answer F nothing = emptyPair F
 answer F (between l u) = pairBy F (rounded F l .0) (rounded F u .0)
 

@@ -8,11 +8,12 @@ use Rattle.meaning.specs.Results.{Image₂, Result₁, Result₂, point}
 use Rattle.meaning.specs.Supremum.{AtMost, atMost, Supremum, Mirrored}
 use Rattle.meaning.proofs.FractionLaws.{le-refl, le-trans, lt-le, eq-refl, eq-le, eq-ge, eq-sym, eq-trans, neg-eq, add-comm, add-galois, add-galois⁻¹, add-mono, mul-comm, mul-assoc, mul-one, mul-eq-left, mul-eq-right}
 use Rattle.meaning.proofs.SetLaws.{some-member, mirror-ordered, member-mirror, mirror-member}
+use Rattle.meaning.proofs.SupremumLaws.{at-most, never-most}
 use Rattle.theorem3.specs.declared.Kind.{Kind}
 use Rattle.theorem3.specs.Ends.{reciprocal, sumEnd}
 use Rattle.theorem3.specs.Tables.{mirrorKind, productUpper, quotientUpper}
 use Rattle.theorem3.specs.Answer.{Arithmetic, adding, subtracting, multiplying, dividing, binary, between, TrueBounds, noResults, someResults, spanBounds, boundsOf, boundsOfNeg}
-use Rattle.theorem3.proofs.Bounds.{at-most, never-most, same-supremum, upper-supremum, lower-supremum}
+use Rattle.theorem3.proofs.Bounds.{same-supremum, upper-supremum, lower-supremum}
 use Rattle.theorem3.proofs.Scaling.{recip-times}
 use Rattle.theorem3.proofs.Products.{Products}
 use Rattle.theorem3.proofs.KindLaws.{KindOf, mirror-kind, only-zero}

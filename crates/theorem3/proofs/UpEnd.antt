@@ -1,21 +1,24 @@
 -- From upward rounding in whole numbers to upward rounding of ends.
 use mathlib.Core.Bool.{Bool, true, false}
-use mathlib.Core.Path.{_≡_}
+use mathlib.Core.Path.{_≡_, ap}
 use Prim.Native.Nat.{ℕ, _+_, _*_, _^_, _<_, _≤_}
-use native.Mathlib.Nat.{mul-le-mul-right, le-of-mul-le-mul-right, mul-pos}
+use native.Mathlib.Nat.{eq-of-mul-eq-mul-right, mul-le-mul-right, le-of-mul-le-mul-right, mul-pos}
 use native.Mathlib.Omega.{arith}
 use lib.Dec.{lit<, ltb}
 use lib.Pow.{pow-pos}
+use Rattle.truth.specs.Answers.{Answers}
+use Rattle.truth.proofs.AnswerLaws.{answers-iff}
 use Rattle.patterns.specs.Format.{Format, signBit}
 use Rattle.patterns.specs.Value.{plus, minus, value, magnitude, choose}
-use Rattle.patterns.specs.Rounding.{Exact, NotAbove, Up, sumOf, productOf, quotientOf, divided}
+use Rattle.patterns.specs.Rounding.{Exact, NotAbove, Up, Reached, sumOf, productOf, quotientOf, divided}
 use Rattle.meaning.specs.Fraction.{Fraction, _≼_, _≈_, _⊕_, _⊗_, whole}
 use Rattle.meaning.specs.Sets.{at}
 use Rattle.meaning.specs.Pairs.{worth}
+use Rattle.meaning.specs.Hull.{OfFormat, EndOfFormat, formatNumber}
 use Rattle.meaning.specs.Supremum.{atMost, UpperEnd}
 use Rattle.meaning.proofs.FractionLaws.{le-trans, eq-le, eq-ge, eq-sym, eq-trans, mul-comm, mul-assoc, mul-one, mul-eq-left, mul-eq-right}
+use Rattle.meaning.proofs.SupremumLaws.{at-most}
 use Rattle.theorem3.specs.Ends.{reciprocal}
-use Rattle.theorem3.proofs.Bounds.{at-most}
 use Rattle.theorem3.proofs.Scaling.{recip-times}
 
 -- The exact value e, in units of the format, is the fraction q.
@@ -29,6 +32,12 @@ forward P N D t u d o p m e h = omega (arith, mul-le-mul-right o h)
 
 backward : (P N D t u d o p m : ℕ) → u * (D * t) + N * o ≡ P * o + d * (D * t) → u * t + m * o ≤ p * o + d * t → (P + m * D) * o ≤ (N + p * D) * o
 backward P N D t u d o p m e h = omega (arith, mul-le-mul-right D h)
+
+forward-same : (P N D t u d o p m : ℕ) → u * (D * t) + N * o ≡ P * o + d * (D * t) → P + m * D ≡ N + p * D → (u * t + m * o) * D ≡ (p * o + d * t) * D
+forward-same P N D t u d o p m e h = omega (arith, ap (λ (k : ℕ). k * o) h)
+
+backward-same : (P N D t u d o p m : ℕ) → u * (D * t) + N * o ≡ P * o + d * (D * t) → u * t + m * o ≡ p * o + d * t → (P + m * D) * o ≡ (N + p * D) * o
+backward-same P N D t u d o p m e h = omega (arith, ap (λ (k : ℕ). k * D) h)
 
 module _ (F : Format) {e : Exact} {q : Fraction} (units : Units F e q) where
   not-above : (b : ℕ) → NotAbove F e b → q ≼ worth F b
@@ -60,6 +69,36 @@ module _ (F : Format) {e : Exact} {q : Fraction} (units : Units F e q) where
     where
       worths : (c : ℕ) → plus F r + minus F c ≤ plus F c + minus F r → worth F r ≼ worth F c
       worths c h = record { le = omega (arith, mul-le-mul-right (2 ^ F .point) h) }
+
+  -- The exact value is the worth of some pattern exactly if the fraction is a number of the format.
+  pub format-end : {x : Bool} → Answers (Reached F e) x → Answers (EndOfFormat F (at q)) x
+  format-end = answers-iff forth (λ h. back (of-number h))
+    where
+      forth : Reached F e → EndOfFormat F (at q)
+      forth h =
+          formatNumber (record {
+            pattern = h .pattern;
+            isFinite = h .equals .finite;
+            is = record {
+              eq =
+                  eq-of-mul-eq-mul-right (e .over) (units .some) _ _
+                  (forward-same (e .positive) (e .negative) (e .over) (2 ^ F .point) (q .up) (q .down) (q .over) (plus F (h .pattern)) (minus F (h .pattern)) (units .same) (h .equals .eq));
+            };
+          })
+
+      of-number : EndOfFormat F (at q) → OfFormat F q
+      of-number (formatNumber h) = h
+
+      back : OfFormat F q → Reached F e
+      back h = record {
+        pattern = h .pattern;
+        equals = record {
+          finite = h .isFinite;
+          eq =
+              eq-of-mul-eq-mul-right (q .over) (q .positive) _ _
+              (backward-same (e .positive) (e .negative) (e .over) (2 ^ F .point) (q .up) (q .down) (q .over) (plus F (h .pattern)) (minus F (h .pattern)) (units .same) (h .is .eq));
+        };
+      }
 
 -- Sums, products and quotients of two patterns' worths in units.
 pub sum-units : (F : Format) (a b : ℕ) → Units F (sumOf F a b) (worth F a ⊕ worth F b)
@@ -100,15 +139,26 @@ unfolding fractionOf quotientOf plus minus
 quotient-times F a b h =
     divided-times (ltb b (signBit F)) (plus F a) (minus F a) (value (F .frac) (magnitude F b)) (2 ^ F .point) h (pow-pos (F .point))
 
+-- What a quotient is: the dividend times the divisor's reciprocal.
+cancelled : (F : Format) (a b : ℕ) → (worth F b ≈ whole 0 → ⊥) → {q : Fraction} → q ⊗ worth F b ≈ worth F a → q ≈ worth F a ⊗ reciprocal (worth F b)
+cancelled F a b z {q} e =
+    let z′ = reciprocal (worth F b) in
+    eq-sym
+    (eq-trans (mul-eq-right z′ (eq-sym e))
+    (eq-trans (mul-assoc q (worth F b) z′)
+    (eq-trans (mul-eq-left q (eq-trans (mul-comm (worth F b) z′) (recip-times (worth F b) z))) (mul-one q))))
+
 -- The rounded quotient of two patterns is their worths' quotient rounded upward.
 pub quotient-end : (F : Format) (a b : ℕ) {r : ℕ} → 0 < quotientOf F a b .over → (worth F b ≈ whole 0 → ⊥) → Up F (quotientOf F a b) r
     → UpperEnd F (at (worth F a ⊗ reciprocal (worth F b))) r
-quotient-end F a b h z up = same-end F (cancelled (quotient-times F a b h)) (up-end F (fraction-units F (quotientOf F a b) h) up)
-  where
-    cancelled : {q : Fraction} → q ⊗ worth F b ≈ worth F a → q ≈ worth F a ⊗ reciprocal (worth F b)
-    cancelled {q} e =
-        let z′ = reciprocal (worth F b) in
-        eq-sym
-        (eq-trans (mul-eq-right z′ (eq-sym e))
-        (eq-trans (mul-assoc q (worth F b) z′)
-        (eq-trans (mul-eq-left q (eq-trans (mul-comm (worth F b) z′) (recip-times (worth F b) z))) (mul-one q))))
+quotient-end F a b h z up = same-end F (cancelled F a b z (quotient-times F a b h)) (up-end F (fraction-units F (quotientOf F a b) h) up)
+
+-- It is a number of the format exactly if some pattern is worth it.
+same-format : (F : Format) {p q : Fraction} → p ≈ q → EndOfFormat F (at p) → EndOfFormat F (at q)
+same-format F e (formatNumber h) = formatNumber (record { pattern = h .pattern; isFinite = h .isFinite; is = eq-trans (eq-sym e) (h .is) })
+
+pub quotient-format : (F : Format) (a b : ℕ) {x : Bool} → 0 < quotientOf F a b .over → (worth F b ≈ whole 0 → ⊥) → Answers (Reached F (quotientOf F a b)) x
+    → Answers (EndOfFormat F (at (worth F a ⊗ reciprocal (worth F b)))) x
+quotient-format F a b h z told =
+    let e = cancelled F a b z (quotient-times F a b h) in
+    answers-iff (same-format F e) (same-format F (eq-sym e)) (format-end F (fraction-units F (quotientOf F a b) h) told)

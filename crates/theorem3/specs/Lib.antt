@@ -3,3 +3,4 @@ pub mod Ends
 pub mod Corners
 pub mod Tables
 pub mod Answer
+pub mod Told

@@ -139,6 +139,11 @@ fn flag(b: bool) -> u8 {
     if b { 1 } else { 0 }
 }
 
+// The interval, and behind it 1 for the first flag and 2 for the second, added up.
+pub fn flagged_interval(x: Interval, first: bool, second: bool) -> Said {
+    accepted(x.ends, flag(first) | (flag(second) << 1))
+}
+
 pub fn truth(r: BoolAnswer) -> Said {
     match r {
         BoolAnswer::Given(b) => one_byte(flag(b)),

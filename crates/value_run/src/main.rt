@@ -12,6 +12,7 @@
 //  128 to 135 | functions that take bytes, and constants (crates/value_functions/src/from_bytes.rt)
 //  161 to 177 | decorated operations by name, under document 01's numbers and 160
 //  193 to 209 | bare operations by name, under document 01's numbers and 192
+//  225 to 229 | arithmetic operations that report exactness, under document 01's numbers and 224
 //
 // A reply is nineteen bytes: number, place and answer (crates/value_records/src/replies.rt). Number 3 says that no function has the
 // record's number, and 4 with a place that an operand of which the function takes the decoration has a byte that is none. A last
@@ -52,6 +53,8 @@ const DECORATED_BY_NAME: u8 = 5;
 
 const BARE_BY_NAME: u8 = 6;
 
+const EXACT_OPERATIONS: u8 = 7;
+
 // The reply to a record with this number and these operands.
 fn answer(number: u8, first: [u8; DECORATED], second: [u8; DECORATED]) -> Said {
     let x = operand_of(first);
@@ -65,6 +68,7 @@ fn answer(number: u8, first: [u8; DECORATED], second: [u8; DECORATED]) -> Said {
         FROM_BYTES => value_functions::from_bytes::call(number, first),
         DECORATED_BY_NAME => value_decorated::call(operation, true, x, y),
         BARE_BY_NAME => value_bare::call(operation, true, x, y),
+        EXACT_OPERATIONS => value_exact::call(operation, x, y),
         _ => unknown_function(),
     }
 }

@@ -1,4 +1,4 @@
-//! Proved interval arithmetic on interchange bytes: the six calls of `include/muenglavot.h` in safe Rust.
+//! Proved interval arithmetic on interchange bytes: the seven calls of `include/muenglavot.h` in safe Rust.
 //!
 //! An operand's bytes, the operation numbers and the numbers of a refusal are described in that header.
 //!
@@ -24,6 +24,8 @@ use std::fmt;
 
 /// The bytes of a bare interval.
 pub const BARE: usize = 16;
+/// The bytes of a bare interval, and of one byte for each end that says whether it is exact.
+pub const BARE_EXACT: usize = BARE + 2;
 /// The bytes of a decorated interval.
 pub const DECORATED: usize = 17;
 /// The bytes of a bare request: an operation number and two operands.
@@ -50,6 +52,7 @@ type Call = unsafe extern "C" fn(*const u8, usize, *mut u8, usize) -> u32;
 
 extern "C" {
     fn muenglavot_request_bare(input: *const u8, in_len: usize, out: *mut u8, out_len: usize) -> u32;
+    fn muenglavot_request_bare_exact(input: *const u8, in_len: usize, out: *mut u8, out_len: usize) -> u32;
     fn muenglavot_request_decorated(input: *const u8, in_len: usize, out: *mut u8, out_len: usize) -> u32;
     fn muenglavot_bare_be_to_le(input: *const u8, in_len: usize, out: *mut u8, out_len: usize) -> u32;
     fn muenglavot_bare_le_to_be(input: *const u8, in_len: usize, out: *mut u8, out_len: usize) -> u32;
@@ -72,6 +75,13 @@ fn call(f: Call, input: &[u8], output: &mut [u8]) -> Result<(), Refusal> {
 /// One operation on bare intervals: 33 bytes in, 16 out. A refusal leaves `output` as it was.
 pub fn request_bare(input: &[u8], output: &mut [u8]) -> Result<(), Refusal> {
     call(muenglavot_request_bare, input, output)
+}
+
+/// One of the operations 1 to 5 on bare intervals, and which ends of the answer are exact: 33 bytes in, 18 out, of which the
+/// last two are 1 or 0 for the lower and for the upper end. An end is exact if it is the true bound of all results, attained
+/// or not. A refusal leaves `output` as it was.
+pub fn request_bare_exact(input: &[u8], output: &mut [u8]) -> Result<(), Refusal> {
+    call(muenglavot_request_bare_exact, input, output)
 }
 
 /// One operation on decorated intervals: 35 bytes in, 17 out. A refusal leaves `output` as it was.

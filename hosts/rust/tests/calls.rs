@@ -13,6 +13,8 @@ const NO_DECORATION: u8 = 5;
 
 const NEG: u8 = 1;
 const ADD: u8 = 2;
+const SUB: u8 = 3;
+const MUL: u8 = 4;
 const DIV: u8 = 5;
 const OVERLAP: u8 = 17;
 
@@ -120,6 +122,94 @@ fn bare_operands_are_refused_with_their_place() {
 fn bare_request_lengths_are_refused() {
     let sum = request(ADD, &interval(1.0, 2.0), &interval(3.0, 4.0));
     expect_lengths_refused("bare request", request_bare, &sum, BARE);
+}
+
+/// Asks for an answer with its exact ends, from the ends of two operands, and holds it to the ends that are wanted and to which
+/// of them are exact.
+fn expect_exact(what: &str, operation: u8, first: (f64, f64), second: (f64, f64), ends: (f64, f64), exact: (bool, bool)) {
+    let asked = request(operation, &interval(first.0, first.1), &interval(second.0, second.1));
+    let wanted = [interval(ends.0, ends.1), vec![exact.0 as u8, exact.1 as u8]].concat();
+    expect(what, request_bare_exact, &asked, BARE_EXACT, Ok(&wanted));
+}
+
+#[test]
+fn exact_sums_and_differences() {
+    let most = (f64::MAX, f64::MAX);
+    let small = 2f64.powi(-60);
+    expect_exact("sum", ADD, (1.0, 2.0), (3.0, 4.0), (4.0, 6.0), (true, true));
+    expect_exact("more digits", ADD, (1.0, 2.0), (small, small), (1.0, 2.0 + 2.0 * f64::EPSILON), (false, false));
+    expect_exact("beyond all doubles", ADD, most, most, (f64::MAX, INF), (false, false));
+    expect_exact("without a bound", ADD, (1.0, INF), (1.0, 2.0), (2.0, INF), (true, true));
+    expect_exact("EMPTY first", ADD, (INF, -INF), (1.0, 2.0), (INF, -INF), (true, true));
+    expect_exact("EMPTY second", ADD, (1.0, 2.0), (INF, -INF), (INF, -INF), (true, true));
+    expect_exact("difference", SUB, (1.0, 1.0), (3.0, 4.0), (-3.0, -2.0), (true, true));
+    expect_exact("one end beyond", SUB, (-f64::MAX, -1.0), (1.0, f64::MAX), (-INF, -2.0), (false, true));
+}
+
+#[test]
+fn exact_products() {
+    let tiny = (f64::from_bits(1), f64::from_bits(1));
+    let above_one = 1.0 + f64::EPSILON;
+    let below_two = 2.0 - 2.0 * f64::EPSILON;
+    let above_two = 2.0 + 2.0 * f64::EPSILON;
+    expect_exact("zero times ENTIRE", MUL, (-0.0, 0.0), (-INF, INF), (-0.0, 0.0), (true, true));
+    expect_exact("below all doubles", MUL, tiny, tiny, (-0.0, tiny.1), (false, false));
+    // One product is 2, and the other just below it rounds up to 2.
+    expect_exact("upper of two", MUL, (-1.0, above_one), (-2.0, below_two), (-above_two, 2.0), (true, true));
+    expect_exact("lower of two", MUL, (-1.0, above_one), (-below_two, 2.0), (-2.0, above_two), (true, true));
+}
+
+#[test]
+fn exact_quotients() {
+    let third = f64::from_bits(0x3FD5555555555555);
+    let above_third = f64::from_bits(0x3FD5555555555556);
+    expect_exact("more digits", DIV, (1.0, 1.0), (3.0, 3.0), (third, above_third), (false, false));
+    expect_exact("upper end", DIV, (1.0, 1.0), (1.0, 3.0), (third, 1.0), (false, true));
+    expect_exact("lower end", DIV, (1.0, 1.0), (-3.0, -1.0), (-1.0, -third), (true, false));
+    expect_exact("not attained", DIV, (1.0, 1.0), (1.0, INF), (-0.0, 1.0), (true, true));
+    expect_exact("without a bound", DIV, (1.0, 2.0), (-0.0, 4.0), (0.25, INF), (true, true));
+    expect_exact("divisor of zero alone", DIV, (1.0, 2.0), (-0.0, 0.0), (INF, -INF), (true, true));
+}
+
+#[test]
+fn exact_negation_reads_no_second_operand() {
+    expect_exact("bounded", NEG, (1.0, 2.0), (INF, INF), (-2.0, -1.0), (true, true));
+    expect_exact("without a bound", NEG, (-INF, 0.0), (NAN, 1.0), (-0.0, INF), (true, true));
+    expect_exact("EMPTY", NEG, (INF, -INF), (2.0, 1.0), (INF, -INF), (true, true));
+}
+
+#[test]
+fn exact_operands_are_refused_with_their_place() {
+    let good = interval(1.0, 2.0);
+    for (what, bad) in [
+        ("ends out of order", interval(2.0, 1.0)),
+        ("a zero of the wrong sign", interval(0.0, 1.0)),
+        ("both ends +inf", interval(INF, INF)),
+        ("one NaN", interval(NAN, 1.0)),
+    ] {
+        expect(what, request_bare_exact, &request(NEG, &bad, &good), BARE_EXACT, Err((5, 1)));
+        for operation in ADD..=DIV {
+            expect(what, request_bare_exact, &request(operation, &bad, &good), BARE_EXACT, Err((5, 1)));
+            expect(what, request_bare_exact, &request(operation, &good, &bad), BARE_EXACT, Err((5, 2)));
+            expect(what, request_bare_exact, &request(operation, &bad, &bad), BARE_EXACT, Err((5, 1)));
+        }
+    }
+}
+
+#[test]
+fn exact_operation_numbers_other_than_1_to_5_are_refused() {
+    for operation in (0..=255).filter(|n| !(NEG..=DIV).contains(n)) {
+        for first in [interval(1.0, 2.0), interval(2.0, 1.0)] {
+            let asked = request(operation, &first, &interval(3.0, 4.0));
+            expect("exact operation number", request_bare_exact, &asked, BARE_EXACT, Err((3, 0)));
+        }
+    }
+}
+
+#[test]
+fn exact_request_lengths_are_refused() {
+    let sum = request(ADD, &interval(1.0, 2.0), &interval(3.0, 4.0));
+    expect_lengths_refused("exact request", request_bare_exact, &sum, BARE_EXACT);
 }
 
 #[test]

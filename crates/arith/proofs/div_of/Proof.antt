@@ -6,7 +6,7 @@ use Rattle.meaning.specs.Pairs.{minusInfinity}
 use Rattle.meaning.specs.Points.{div}
 use Rattle.truth.proofs.AnswerLaws.{said-yes, said-no}
 use Rattle.end_pairs.proofs.EmptyLaws.{neither-empty, empty-hull₂}
-use Rattle.arith.proofs.BoundLaws.{divides, quotient-hull, no-quotient}
+use Rattle.arith.proofs.BoundLaws.{divides, hull-between, hull-nothing, quotient-bounds, no-quotient}
 use Rattle.arith.proofs.div_of.Statement.{statement}
 use Rattle.arith.proofs.div_of.Tie as tie
 
@@ -22,8 +22,9 @@ unfolding infinity minusInfinity signBit
 returns-2 c =
     let class = c .before .before in
     let test = class .before in
-    no-quotient binary64 _ _ (neither-empty binary64 (test .before .before .pre) (said-no (test .before .either-empty .ensures) (test .if1 .left)))
-    (class .classify .ensures) (sym (c .before .is-zero .ensures) ∙ c .if2 .taken)
+    hull-nothing binary64
+    (no-quotient binary64 _ _ (neither-empty binary64 (test .before .before .pre) (said-no (test .before .either-empty .ensures) (test .if1 .left)))
+    (class .classify .ensures) (sym (c .before .is-zero .ensures) ∙ c .if2 .taken))
 
 classify-requires-2 : tie.Need-classify-requires-2
 classify-requires-2 c κs = c .before .before .before .before .before .pre .0
@@ -52,9 +53,10 @@ returns-3 c =
     let zero = kinds .before .before .before in
     let class = zero .before .before in
     let test = class .before in
-    quotient-hull binary64 _ _ (neither-empty binary64 (test .before .before .pre) (said-no (test .before .either-empty .ensures) (test .if1 .left)))
-    (c .outward .ensures) (lower .before .mirrored .ensures) (kinds .before .before .classify2 .ensures) (class .classify .ensures)
-    (sym (zero .before .is-zero .ensures) ∙ zero .if2 .left)
+    hull-between binary64 (c .outward .ensures)
+    (quotient-bounds binary64 _ _ (neither-empty binary64 (test .before .before .pre) (said-no (test .before .either-empty .ensures) (test .if1 .left)))
+    (lower .before .mirrored .ensures) (kinds .before .before .classify2 .ensures) (class .classify .ensures)
+    (sym (zero .before .is-zero .ensures) ∙ zero .if2 .left))
     (rw (lower .before .before .quotient-corner .ensures, kinds .mirrored-kind .ensures, kinds .before .kind-of .ensures) at (lower .quotient-at .ensures))
     (rw (upper .before .quotient-corner2 .ensures, kinds .before .kind-of .ensures) at (upper .quotient-at2 .ensures))
 

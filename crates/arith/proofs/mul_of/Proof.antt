@@ -5,7 +5,7 @@ use Rattle.meaning.specs.Pairs.{minusInfinity}
 use Rattle.meaning.specs.Points.{mul}
 use Rattle.truth.proofs.AnswerLaws.{said-yes, said-no}
 use Rattle.end_pairs.proofs.EmptyLaws.{neither-empty, empty-hull₂}
-use Rattle.arith.proofs.BoundLaws.{product-hull}
+use Rattle.arith.proofs.BoundLaws.{hull-between, product-bounds}
 use Rattle.arith.proofs.mul_of.Statement.{statement}
 use Rattle.arith.proofs.mul_of.Tie as tie
 
@@ -26,8 +26,9 @@ returns-2 c =
     let kinds = lower .before .before .before in
     let first = kinds .before .before .before in
     let test = first .before .before in
-    product-hull binary64 _ _ (neither-empty binary64 (test .before .before .pre) (said-no (test .before .either-empty .ensures) (test .if1 .left)))
-    (c .outward .ensures) (lower .before .mirrored .ensures) (first .before .classify .ensures) (kinds .before .before .classify2 .ensures)
+    hull-between binary64 (c .outward .ensures)
+    (product-bounds binary64 _ _ (neither-empty binary64 (test .before .before .pre) (said-no (test .before .either-empty .ensures) (test .if1 .left)))
+    (lower .before .mirrored .ensures) (first .before .classify .ensures) (kinds .before .before .classify2 .ensures))
     (rw (lower .before .before .product-corner .ensures, kinds .mirrored-kind .ensures, first .kind-of .ensures, kinds .before .kind-of2 .ensures) at (lower .product-at .ensures))
     (rw (upper .before .product-corner2 .ensures, first .kind-of .ensures, kinds .before .kind-of2 .ensures) at (upper .product-at2 .ensures))
 

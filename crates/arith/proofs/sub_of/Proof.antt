@@ -5,7 +5,7 @@ use Rattle.meaning.specs.Pairs.{minusInfinity}
 use Rattle.meaning.specs.Points.{sub}
 use Rattle.truth.proofs.AnswerLaws.{said-yes, said-no}
 use Rattle.end_pairs.proofs.EmptyLaws.{neither-empty, empty-hull₂}
-use Rattle.arith.proofs.BoundLaws.{difference-hull}
+use Rattle.arith.proofs.BoundLaws.{hull-between, difference-bounds}
 use Rattle.arith.proofs.sub_of.Statement.{statement}
 use Rattle.arith.proofs.sub_of.Tie as tie
 
@@ -16,8 +16,9 @@ returns c = empty-hull₂ binary64 sub _ _ (said-yes (c .before .either-empty .e
 returns-2 : tie.Need-returns-2
 returns-2 c =
     let test = c .before .before .before .before .before in
-    difference-hull binary64 _ _ (neither-empty binary64 (test .before .before .pre) (said-no (test .before .either-empty .ensures) (test .if1 .left)))
-    (c .outward .ensures) (c .before .before .before .before .opposite .ensures) (c .before .before .opposite2 .ensures)
+    hull-between binary64 (c .outward .ensures)
+    (difference-bounds binary64 _ _ (neither-empty binary64 (test .before .before .pre) (said-no (test .before .either-empty .ensures) (test .if1 .left)))
+    (c .before .before .before .before .opposite .ensures) (c .before .before .opposite2 .ensures))
     (c .before .before .before .sum-end .ensures) (c .before .sum-end2 .ensures)
 
 pub sub-of-spec : {M : Type 1} → statement M

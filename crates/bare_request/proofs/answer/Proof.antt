@@ -2,8 +2,8 @@
 use borrow.Author.Needs.{needs}
 use Rattle.meaning.specs.Requests.{unary, binary, overlap}
 use Rattle.meaning.proofs.CalledLaws.{stop}
-use Rattle.operations.specs.Names.{unaryOf, binaryOf}
-use Rattle.operations.proofs.AskedLaws.{one-asked, two-asked, overlap-asked, nothing-asked}
+use Rattle.operation_names.specs.Names.{unaryOf, binaryOf}
+use Rattle.operation_names.proofs.AskedLaws.{one-asked, two-asked, overlap-asked, nothing-asked}
 use Rattle.request_laws.proofs.RequestedLaws.{requested}
 use Rattle.bare_request.proofs.answer.Statement.{statement}
 use Rattle.bare_request.proofs.answer.Tie as tie

@@ -9,13 +9,13 @@ use Rattle.arith_ends.proofs.EndLaws.{numbers, either-infinite}
 use Rattle.arith_ends.proofs.ends.product_end.Statement.{statement}
 use Rattle.arith_ends.proofs.ends.product_end.Tie as tie
 
-mul-ru-requires : tie.Need-mul-ru-requires
-mul-ru-requires c κs = said-yes (c .before .both-finite .ensures) (c .if1 .taken)
+product-up-requires : tie.Need-product-up-requires
+product-up-requires c κs = said-yes (c .before .both-finite .ensures) (c .if1 .taken)
 
 returns : tie.Need-returns
 returns c =
     numbers binary64 productEnd (λ y. refl) (said-yes (c .before .before .both-finite .ensures) (c .before .if1 .taken))
-    (up-end binary64 (product-units binary64 _ _) (c .mul-ru .ensures))
+    (up-end binary64 (product-units binary64 _ _) (c .product-up .ensures))
 
 returns-2 : tie.Need-returns-2
 unfolding infinity signBit
@@ -24,4 +24,4 @@ returns-2 c =
     (said-no (c .before .both-finite .ensures) (c .if1 .left))
 
 pub product-end-spec : {M : Type 1} → statement M
-product-end-spec = tie.close (tie.spec (search needs) mul-ru-requires returns returns-2)
+product-end-spec = tie.close (tie.spec (search needs) product-up-requires returns returns-2)

@@ -8,15 +8,15 @@ use Rattle.arith_ends.proofs.EndLaws.{numbers, first-infinite, second-i
 use Rattle.arith_ends.proofs.ends.quotient_end.Statement.{statement}
 use Rattle.arith_ends.proofs.ends.quotient_end.Tie as tie
 
-div-ru-requires : tie.Need-div-ru-requires
-div-ru-requires c κs =
+quotient-up-requires : tie.Need-quotient-up-requires
+quotient-up-requires c κs =
     let f = said-yes (c .before .both-finite .ensures) (c .if1 .taken) in
     (f .0, f .1, value-not-zero binary64 (f .1) (c .before .before .pre))
 
 returns : tie.Need-returns
 returns c =
     let f = said-yes (c .before .before .both-finite .ensures) (c .before .if1 .taken) in
-    numbers binary64 quotientEnd (λ y. refl) f (quotient-right binary64 (f .1) (c .before .before .before .pre) _ (c .div-ru .ensures))
+    numbers binary64 quotientEnd (λ y. refl) f (quotient-right binary64 (f .1) (c .before .before .before .pre) _ (c .quotient-up .ensures))
 
 returns-2 : tie.Need-returns-2
 unfolding signBit
@@ -31,4 +31,4 @@ returns-3 c =
     first-infinite binary64 quotientEnd (λ y. refl) _ (search needs) (said-no (c .before .is-finite .ensures) (c .if2 .left))
 
 pub quotient-end-spec : {M : Type 1} → statement M
-quotient-end-spec = tie.close (tie.spec (search needs) div-ru-requires returns (search needs) returns-2 returns-3)
+quotient-end-spec = tie.close (tie.spec (search needs) quotient-up-requires returns (search needs) returns-2 returns-3)

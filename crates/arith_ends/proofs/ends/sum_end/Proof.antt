@@ -9,13 +9,13 @@ use Rattle.arith_ends.proofs.EndLaws.{numbers, either-infinite}
 use Rattle.arith_ends.proofs.ends.sum_end.Statement.{statement}
 use Rattle.arith_ends.proofs.ends.sum_end.Tie as tie
 
-add-ru-requires : tie.Need-add-ru-requires
-add-ru-requires c κs = said-yes (c .before .both-finite .ensures) (c .if1 .taken)
+sum-up-requires : tie.Need-sum-up-requires
+sum-up-requires c κs = said-yes (c .before .both-finite .ensures) (c .if1 .taken)
 
 returns : tie.Need-returns
 returns c =
     numbers binary64 sumEnd (λ y. refl) (said-yes (c .before .before .both-finite .ensures) (c .before .if1 .taken))
-    (up-end binary64 (sum-units binary64 _ _) (c .add-ru .ensures))
+    (up-end binary64 (sum-units binary64 _ _) (c .sum-up .ensures))
 
 returns-2 : tie.Need-returns-2
 unfolding infinity signBit
@@ -24,4 +24,4 @@ returns-2 c =
     (said-no (c .before .both-finite .ensures) (c .if1 .left))
 
 pub sum-end-spec : {M : Type 1} → statement M
-sum-end-spec = tie.close (tie.spec (search needs) add-ru-requires returns returns-2)
+sum-end-spec = tie.close (tie.spec (search needs) sum-up-requires returns returns-2)

@@ -5,7 +5,7 @@ use Rattle.meaning.specs.Pairs.{setOf}
 use Rattle.meaning.specs.Results.{Result₁}
 use Rattle.meaning.specs.Statement.{HullOf}
 use Rattle.meaning.specs.Bytes.{bigEndian, writePair}
-use Rattle.operations.specs.Names.{unaryOf}
+use Rattle.operation_names.specs.Names.{unaryOf}
 use Rattle.interval.specs.IntervalMeaning.{outcome}
 use Rattle.meaning.proofs.CalledLaws.{written, refusing}
 use Rattle.request_laws.proofs.ReadLaws.{found₁, after₁, refused₁}

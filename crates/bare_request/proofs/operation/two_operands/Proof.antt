@@ -5,7 +5,7 @@ use Rattle.meaning.specs.Pairs.{setOf}
 use Rattle.meaning.specs.Results.{Result₂}
 use Rattle.meaning.specs.Statement.{HullOf}
 use Rattle.meaning.specs.Bytes.{bigEndian, writePair}
-use Rattle.operations.specs.Names.{binaryOf}
+use Rattle.operation_names.specs.Names.{binaryOf}
 use Rattle.meaning.proofs.CalledLaws.{written, refusing}
 use Rattle.request_laws.proofs.ReadLaws.{found₂, after₂, refused₂}
 use Rattle.bare_request.specs.OperandMeaning.{bothOf}

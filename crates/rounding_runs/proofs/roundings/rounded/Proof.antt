@@ -12,13 +12,13 @@ div-ru-requires c κs =
     (takes .first, takes .second, subst (λ (o : Operation). SecondOf o (c .before .before .args .b)) (c .enum-told3 .given .1) (takes .divisor))
 
 returns : tie.Need-returns
-returns c = rw (c .before .enum-told .given .1) (c .add-ru .ensures)
+returns c = rw (c .before .enum-told .given .1) (c .add-ru .ensures .up)
 
 returns-2 : tie.Need-returns-2
-returns-2 c = rw (c .before .enum-told2 .given .1) (c .mul-ru .ensures)
+returns-2 c = rw (c .before .enum-told2 .given .1) (c .mul-ru .ensures .up)
 
 returns-3 : tie.Need-returns-3
-returns-3 c = rw (c .before .enum-told3 .given .1) (c .div-ru .ensures)
+returns-3 c = rw (c .before .enum-told3 .given .1) (c .div-ru .ensures .up)
 
 pub rounded-spec : {M : Type 1} → statement M
 rounded-spec =

@@ -1,0 +1,2 @@
+-- What the contracts of the operations on ends cite.
+pub mod ExactFor

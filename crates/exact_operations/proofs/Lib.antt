@@ -1,0 +1,3 @@
+-- Laws of operation names, and of negation.
+pub mod NameLaws
+pub mod NegationLaws

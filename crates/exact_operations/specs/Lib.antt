@@ -1,0 +1,2 @@
+-- What the contracts of operations that report exactness cite.
+pub mod ExactIntervals

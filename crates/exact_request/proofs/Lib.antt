@@ -1,0 +1,2 @@
+-- Laws of flags in lent bytes.
+pub mod FlagByteLaws

@@ -1,0 +1,2 @@
+-- What the contracts of operations on any values cite.
+pub mod ExactAnswers

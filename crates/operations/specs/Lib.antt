@@ -1,3 +1,0 @@
--- What the contracts of operations by name cite.
-pub mod Names
-pub mod Numbers
