@@ -12,7 +12,8 @@ use Rattle.patterns.specs.Rounding.{UpperPattern}
 use Rattle.meaning.specs.Fraction.{Fraction, _≼_, _≺_}
 use Rattle.meaning.specs.Sets.{End, at, unbounded, SameEnd}
 use Rattle.meaning.specs.Pairs.{worth, endOf}
-use Rattle.meaning.specs.Supremum.{AtMost, atMost, UpperEnd, UpperEndTold}
+use Rattle.meaning.specs.Supremum.{AtMost, atMost, UpperEnd}
+use Rattle.meaning.proofs.ExactEnds.{UpperEndTold}
 use Rattle.meaning.proofs.FractionLaws.{le-refl, le-or-le, lt-not-le, eq-refl}
 use Rattle.meaning.proofs.PairLaws.{end-finite, end-infinity}
 use Rattle.meaning.proofs.PatternHull.{upper-pattern, rounded-up}

@@ -12,7 +12,7 @@ use Rattle.meaning.specs.Points.{neg}
 use Rattle.meaning.specs.Results.{Result₂, point}
 use Rattle.meaning.specs.Pairs.{Pair, both, minusInfinity, Bare, endOf, setOf}
 use Rattle.meaning.specs.Statement.{given, right₁, right₂, bareGood}
-use Rattle.meaning.specs.Supremum.{UpperEndTold}
+use Rattle.meaning.proofs.ExactEnds.{UpperEndTold}
 use Rattle.meaning.specs.Exactness.{ExactPair, ExactHullOf, Exact₁, Exact₂}
 use Rattle.meaning.proofs.PairLaws.{set-valid}
 use Rattle.meaning.proofs.PatternHull.{hull-of-none}

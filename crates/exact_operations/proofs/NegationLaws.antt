@@ -13,7 +13,7 @@ use Rattle.meaning.proofs.HullLaws.{negated-of-format}
 use Rattle.meaning.proofs.PairLaws.{set-valid}
 use Rattle.theorem3.specs.Answer.{TrueBounds, boundsOfNeg}
 use Rattle.theorem3.proofs.TrueBounds.{neg-bounds-right}
-use Rattle.theorem3.proofs.ExactTheorem3.{exact-between, exact-nothing}
+use Rattle.theorem3.proofs.ExactBounds.{exact-between, exact-nothing}
 use Rattle.end_pairs.proofs.ExactHull.{set-of-format}
 
 mirrored-format : (F : Format) {e : End} → EndOfFormat F e → EndOfFormat F (mirrorEnd e)

@@ -7,7 +7,7 @@ ghost use Rattle.patterns.specs.Format.{binary64};
 ghost use Rattle.meaning.specs.Calls.{Called};
 ghost use Rattle.meaning.specs.Points.{neg};
 ghost use Rattle.meaning.specs.Requests.{unary, binary, bareSize, Requested};
-ghost use Rattle.meaning.specs.ExactRequests.{ExactOutcome, ExactRequest, arithmetic, flagByte, writeExact};
+ghost use Rattle.meaning.specs.ExactRequests.{ExactOutcome, ExactRequest, arithmetic, writeExact};
 ghost use Rattle.operation_names.specs.Names.{arithmeticOf};
 ghost use Rattle.exact_operations.specs.ExactIntervals.{exactPairOf};
 ghost use Rattle.request_laws.specs.Reads.{OnOperands};
@@ -22,6 +22,7 @@ use interval::Answer;
 use lent_calls::BARE_REQUEST;
 use lent_calls::FIRST_AT;
 use lent_calls::NUMBER_AT;
+use lent_calls::flag_byte;
 use lent_intervals::BARE;
 use lent_intervals::read_bare;
 use operation_names::Arithmetic;
@@ -36,15 +37,6 @@ const UPPER_EXACT_AT: usize = BARE + 1;
 
 // The bytes of an answer.
 const EXACT: usize = BARE + 2;
-
-fn flag_byte(exact: bool) -> u8
-    ensures { λ r. ⌜ r ≡ flagByte exact ⌝ }
-{
-    if exact {
-        return 1;
-    }
-    0
-}
 
 // The interval and its flags over the whole output.
 fn write_exact(z: ExactInterval, output: &mut [u8])

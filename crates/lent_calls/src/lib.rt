@@ -1,8 +1,10 @@
-// What calls on lent bytes share: how long their bytes are, how a state is written, and a refusal packed. It stands on the sizes of
+// What calls on lent bytes share: how long their bytes are, how a state and a truth value are written, and a refusal packed. It stands on the sizes of
 // intervals (`lent_intervals`).
+mod flag;
 mod number;
 mod state;
 
+pub use flag::flag_byte;
 use lent_intervals::BARE;
 use lent_intervals::DECORATED;
 pub use number::packed;

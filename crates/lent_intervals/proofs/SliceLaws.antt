@@ -1,7 +1,7 @@
 -- Intervals in a part of a list, and over a whole one.
 use mathlib.Core.Path.{_≡_, sym, _∙_, ap}
-use mathlib.Core.List.{List, [], _∷_, _++_, append-nil}
-use Prim.Native.Nat.{ℕ, suc, _+_, _≤_}
+use mathlib.Core.List.{List, [], _∷_, _++_, append-assoc, append-nil}
+use Prim.Native.Nat.{ℕ, suc, _+_, _<_, _≤_}
 use native.Mathlib.Nat.{le-of-eq}
 use native.Mathlib.Omega.{arith}
 use lib.Dec.{lit<}
@@ -24,10 +24,13 @@ byte-part start s = getD-take 17 (drop start s) 16 0 (lit< tt) ∙ getD-drop sta
 pub whole : (n : ℕ) (s : List ℕ) {l p : List ℕ} → l ≡ p ++ drop n s → length s ≡ n → l ≡ p
 whole n s {p = p} e f = e ∙ ap (λ (t : List ℕ). p ++ t) (drop-of-length-le s {i = n} (le-of-eq f)) ∙ append-nil p
 
--- One byte that is left behind what is written is replaced.
+-- The byte behind what is written is replaced, and so is written itself.
+pub next-byte : (n : ℕ) (p s : List ℕ) (b : ℕ) {l : List ℕ} → length p ≡ n → n < length s → l ≡ p ++ drop n s → set l n b ≡ (p ++ b ∷ []) ++ drop (suc n) s
+next-byte n p s b short more e =
+    ap (λ (l : List ℕ). set l n b) (e ∙ ap (λ (t : List ℕ). p ++ t) (drop-cons s n 0 more))
+    ∙ set-at p (getD s n 0) (drop (suc n) s) b n short
+    ∙ sym (append-assoc p (b ∷ []) (drop (suc n) s))
+
+-- The same where it is the last.
 pub last-byte : (n : ℕ) (p s : List ℕ) (b : ℕ) {l : List ℕ} → length p ≡ n → length s ≡ suc n → l ≡ p ++ drop n s → set l n b ≡ p ++ (b ∷ [])
-last-byte n p s b short long e =
-    ap (λ (l : List ℕ). set l n b) (e ∙ ap (λ (t : List ℕ). p ++ t) one) ∙ set-at p (getD s n 0) [] b n short
-  where
-    one : drop n s ≡ getD s n 0 ∷ []
-    one = drop-cons s n 0 (omega arith) ∙ ap (λ (t : List ℕ). getD s n 0 ∷ t) (drop-of-length-le s {i = suc n} (le-of-eq long))
+last-byte n p s b short long e = whole (suc n) s (next-byte n p s b short (omega arith) e) long

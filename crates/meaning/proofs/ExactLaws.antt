@@ -1,60 +1,31 @@
--- Exact ends: which flags are right beside true bounds, that they are the only ones, and what both together say.
+-- Exact ends: which flags are right beside true bounds, that they are the only ones, and what is left without them.
 use mathlib.Core.Bool.{Bool, true}
-use mathlib.Core.Path.{_≡_, refl, _∙_, ap, subst, subst⁻¹}
-use mathlib.Core.Logic.{_↔_, ⊎-elim}
+use mathlib.Core.Path.{_≡_, refl, subst⁻¹}
 use Prim.Native.Nat.{ℕ}
 use Rattle.truth.specs.Answers.{Answers, affirmed}
-use Rattle.truth.proofs.AnswerLaws.{answers-iff, answers-once, said-yes}
+use Rattle.truth.proofs.AnswerLaws.{answers-iff, answers-once}
 use Rattle.patterns.specs.Format.{Format}
-use Rattle.patterns.specs.Value.{Finite}
-use Rattle.patterns.specs.Rounding.{UpperPattern}
-use Rattle.meaning.specs.Fraction.{Fraction, _≼_, negated}
-use Rattle.meaning.specs.Sets.{End, at, unbounded, Set, empty, span, Member, Inside, Under, under, underNone, Over, SameEnd, sameNumber, sameNone, mirrorEnd}
-use Rattle.meaning.specs.Pairs.{Pair, worth, emptyPair, endOf, setOf}
-use Rattle.meaning.specs.Hull.{EndOfFormat, formatNumber, formatInfinite}
-use Rattle.meaning.specs.Supremum.{AtMost, atMost, Supremum, Mirrored, UpperEnd, UpperEndTold}
+use Rattle.meaning.specs.Fraction.{Fraction}
+use Rattle.meaning.specs.Sets.{End, Set, empty, span, SameEnd, mirrorEnd}
+use Rattle.meaning.specs.Pairs.{Pair, emptyPair, endOf, setOf}
+use Rattle.meaning.specs.Supremum.{Supremum, Mirrored}
 use Rattle.meaning.specs.Points.{Unary}
 use Rattle.meaning.specs.Results.{Operation, Result₁, Result₂}
 use Rattle.meaning.specs.Statement.{Outcome, refused, given, first₁, right₁, first₂, second₂, right₂, HullOf, Bare₁, Bare₂}
-use Rattle.meaning.specs.Exactness.{ExactUpper, ofEmpty, trueBound, ExactLower, ExactPair, ExactHullOf, ExactHull, Exact₁, Exact₂}
-use Rattle.meaning.proofs.FractionLaws.{le-trans, eq-le, eq-ge, antisymm}
-use Rattle.meaning.proofs.SetLaws.{over-mirror, under-mirror, mirrorEnd-twice}
-use Rattle.meaning.proofs.SupremumLaws.{at-most, never-most, sup-same, supremum-once}
-use Rattle.meaning.proofs.PairLaws.{set-empty, end-finite, end-infinity}
+use Rattle.meaning.specs.Exactness.{ExactUpper, ofEmpty, trueBound, ExactLower, ExactPair, ExactHullOf, Exact₁, Exact₂}
+use Rattle.meaning.proofs.SetLaws.{mirrorEnd-twice}
+use Rattle.meaning.proofs.ExactEnds.{UpperEndTold}
+use Rattle.meaning.proofs.SupremumLaws.{sup-same, supremum-once}
+use Rattle.meaning.proofs.PairLaws.{set-empty}
 use Rattle.meaning.proofs.PatternHull.{pairBy, hull-of-ends, set-of-ends}
 use Rattle.meaning.proofs.Unique.{judged-bare-once, hull-once, one-answer₁, one-answer₂}
 
-true-bound : {R : Fraction → Type 0} {lower upper : End} → ExactUpper R (span lower upper) → Supremum R upper
+pub true-bound : {R : Fraction → Type 0} {lower upper : End} → ExactUpper R (span lower upper) → Supremum R upper
 true-bound (trueBound s) = s
 
 -- Beside the true bound u, an end is exact exactly if it is the same.
 upper-told : {R : Fraction → Type 0} {u e lower : End} {t : Bool} → Supremum R u → Answers (SameEnd u e) t → Answers (ExactUpper R (span lower e)) t
 upper-told s = answers-iff (λ same. trueBound (sup-same same s)) (λ exact. supremum-once s (true-bound exact))
-
--- An end rounds to itself exactly if it is an end of the format.
-module _ (F : Format) {r : ℕ} where
-  format-same : {u : End} → UpperEnd F u r → EndOfFormat F u → SameEnd u (endOf F r)
-  format-same up (formatNumber {q} h) =
-      let (finite, le) = up .least (h .pattern) (h .isFinite) (atMost (eq-le (h .is))) in
-      subst⁻¹ (SameEnd (at q)) (end-finite F finite) (sameNumber (antisymm (at-most (up .above finite)) (le-trans le (eq-ge (h .is)))))
-  format-same up formatInfinite =
-      ⊎-elim (λ f. absurd (never-most (up .above f))) (λ e. subst⁻¹ (SameEnd unbounded) (ap (endOf F) e ∙ end-infinity F) sameNone) (up .upper .number)
-
-  same-format : {u : End} → UpperPattern F r → SameEnd u (endOf F r) → EndOfFormat F u
-  same-format upper same =
-      ⊎-elim (λ f. number f (subst (SameEnd _) (end-finite F f) same)) (λ e. none (subst (SameEnd _) (ap (endOf F) e ∙ end-infinity F) same)) (upper .number)
-    where
-      number : {u : End} → Finite F r → SameEnd u (at (worth F r)) → EndOfFormat F u
-      number f (sameNumber e) = formatNumber (record { pattern = r; isFinite = f; is = e })
-
-      none : {u : End} → SameEnd u unbounded → EndOfFormat F u
-      none sameNone = formatInfinite
-
-  pub told-end : {u : End} {x : Bool} → UpperEnd F u r → Answers (EndOfFormat F u) x → UpperEndTold F u r x
-  told-end up told = record { rounded = up; told = answers-iff (format-same up) (same-format (up .upper)) told }
-
-  pub end-told : {u : End} {x : Bool} → UpperEndTold F u r x → Answers (EndOfFormat F u) x
-  end-told h = answers-iff (same-format (h .rounded .upper)) (format-same (h .rounded)) (h .told)
 
 -- True bounds of results, of which there are some, rounded outward as patterns with their flags are the right answer.
 module _ (F : Format) (R : Fraction → Type 0) {u l : End} {lo hi : ℕ} {s t : Bool}
@@ -118,34 +89,3 @@ pub exact₂-bare : (F : Format) (op : Operation) (x y : Pair) {o : Outcome Exac
 exact₂-bare F op x y (first₂ j) = first₂ j
 exact₂-bare F op x y (second₂ j k) = second₂ j k
 exact₂-bare F op x y (right₂ j k r) = right₂ j k (r .answer)
-
--- Between true bounds lies no more than between any ends that hold all results.
-module _ {R : Fraction → Type 0} {x : Fraction} where
-  high-in : {b d : End} → Supremum R b → ((r : Fraction) → R r → Under r d) → Under x b → Under x d
-  high-in {b} {d = at w} s h m = within (s .least w (λ r i. bound (h r i))) m
-    where
-      bound : {r : Fraction} → Under r (at w) → r ≼ w
-      bound (under k) = k
-
-      within : {b : End} → AtMost w b → Under x b → Under x (at w)
-      within (atMost k) (under l) = under (le-trans l k)
-  high-in {b} {d = unbounded} s h m = underNone
-
-low-in : {R : Fraction → Type 0} {x : Fraction} {a c : End} → Supremum (Mirrored R) (mirrorEnd a) → ((r : Fraction) → R r → Over r c) → Over x a → Over x c
-low-in {R} {x} {a} {c} s h m =
-    subst (Over x) (mirrorEnd-twice c)
-    (under-mirror (mirrorEnd c) (high-in {R = Mirrored R} s (λ r i. over-mirror c (h (negated r) i)) (over-mirror a m)))
-
-exact-inside : {R : Fraction → Type 0} (Z : Set) → ExactLower R Z → ExactUpper R Z → (Z ≡ empty) ↔ ((r : Fraction) → R r → ⊥)
-    → (W : Set) → ((r : Fraction) → R r → Member W r) → Inside Z W
-exact-inside empty l u e W h x m = absurd m
-exact-inside (span a b) l u e empty h x m = subst (λ (Z : Set). Member Z x) (e .1 h) m
-exact-inside (span a b) l u e (span c d) h x m =
-    record { low = low-in (true-bound l) (λ r i. h r i .low) (m .low); high = high-in (true-bound u) (λ r i. h r i .high) (m .high) }
-
--- If both flags are set, the answer is the hull in exact fractions, no wider.
-pub no-wider : (F : Format) (R : Fraction → Type 0) (z : ExactPair) → ExactHullOf F R z → z .lowerExact ≡ true → z .upperExact ≡ true
-    → ExactHull R (setOf F (z .pair))
-no-wider F R z h l u =
-    let hull = h .answer .hull in
-    record { holds = hull .holds; narrowest = exact-inside (setOf F (z .pair)) (said-yes (h .lower) l) (said-yes (h .upper) u) (hull .emptyIf) }

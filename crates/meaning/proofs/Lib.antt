@@ -7,7 +7,9 @@ pub mod PairLaws
 pub mod HullLaws
 pub mod PatternHull
 pub mod Unique
+pub mod ExactEnds
 pub mod ExactLaws
+pub mod NoWider
 pub mod CalledLaws
 pub mod OperationNumbers
 pub mod Differences

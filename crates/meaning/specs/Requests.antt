@@ -58,7 +58,7 @@ abbrev pub writeState : (size : ℕ) → ℕ → List ℕ
 writeState size n = n ∷ zeros (size - 1)
 
 -- The pair that bytes are read as, and the set that it stands for.
-abbrev setRead : Format → List ℕ → Set
+abbrev pub setRead : Format → List ℕ → Set
 setRead F bs = setOf F (readPair bigEndian bs)
 
 -- The outcome of a bare operation on the bytes of its operands. "One-operand operations don't read the second operand."
@@ -125,9 +125,13 @@ outputOf size = record { Holds = λ input before. length before ≡ size; number
 abbrev pub numbered : Test (List ℕ)
 numbered = record { Holds = λ input before. Known input; number = 3 }
 
--- The tests of a request, and those of a codec, on intervals of a size.
+-- The tests of a request on intervals of a size, by the size of its answer and the test of its operation number.
+abbrev pub testsBy : (size answer : ℕ) → Test (List ℕ) → List (Test (List ℕ))
+testsBy size answer number = inputOf (1 + size + size) ∷ outputOf answer ∷ number ∷ []
+
+-- The tests of a request, and those of a codec.
 abbrev pub requestTests : (size : ℕ) → List (Test (List ℕ))
-requestTests size = inputOf (1 + size + size) ∷ outputOf size ∷ numbered ∷ []
+requestTests size = testsBy size size numbered
 
 abbrev pub codecTests : (size : ℕ) → List (Test (List ℕ))
 codecTests size = inputOf size ∷ outputOf size ∷ []

@@ -1,13 +1,11 @@
 -- Least upper bounds, attained or merely approached, and their upward rounding.
-use mathlib.Core.Bool.{Bool}
 use Prim.Native.Nat.{ℕ}
-use Rattle.truth.specs.Answers.{Answers}
 use Rattle.patterns.specs.Format.{Format}
 use Rattle.patterns.specs.Value.{Finite}
 use Rattle.patterns.specs.Rounding.{UpperPattern}
 use Rattle.meaning.specs.Fraction.{Fraction, _≼_, negated}
-use Rattle.meaning.specs.Sets.{End, at, SameEnd}
-use Rattle.meaning.specs.Pairs.{worth, endOf}
+use Rattle.meaning.specs.Sets.{End, at}
+use Rattle.meaning.specs.Pairs.{worth}
 
 abbrev pub UpperBound : (Fraction → Type 0) → Fraction → Type 0
 UpperBound R w = (r : Fraction) → R r → r ≼ w
@@ -30,8 +28,3 @@ pub record UpperEnd (F : Format) (u : End) (r : ℕ) : Type 0 where
   pub upper : UpperPattern F r
   pub above : Finite F r → AtMost (worth F r) u
   pub least : (c : ℕ) → Finite F c → AtMost (worth F c) u → Finite F r × (worth F r ≼ worth F c)
-
--- The same, and `exact` says whether r is u itself: the same number, or no bound.
-pub record UpperEndTold (F : Format) (u : End) (r : ℕ) (exact : Bool) : Type 0 where
-  pub rounded : UpperEnd F u r
-  pub told : Answers (SameEnd u (endOf F r)) exact

@@ -6,8 +6,8 @@ use Prim.Native.Nat.{ℕ, min, _+_, _*_, _-_, _^_, _<_, _≤_}
 use native.Mathlib.Omega.{arith}
 use native.Mathlib.Nat.{le-antisymm, le-of-eq, le-trans, lt-irrefl, lt-of-le-of-lt, lt-of-lt-of-le, min-le-left, min-le-right, mul-le-mul-right, mul-lt-mul-of-pos-right, sub-zero}
 use lib.Arith.{lt-of-le-ne}
-use Rattle.truth.specs.Answers.{Answers, denied}
-use Rattle.truth.proofs.AnswerLaws.{answers-iff}
+use Rattle.truth.specs.Answers.{Answers}
+use Rattle.truth.proofs.AnswerLaws.{answers-iff, answers-and, answers-itself}
 use Rattle.patterns.specs.Format.{Format, infinity}
 use Rattle.patterns.specs.Value.{value}
 use Rattle.patterns.specs.Rounding.{RoundsUp, RoundsDown, Representable}
@@ -15,11 +15,6 @@ use Rattle.patterns.proofs.ValueLaws.{le-or-lt, packed, value-mono, value-stric
 use Rattle.patterns.proofs.UpLaws.{infinity-positive}
 use Rattle.packing.specs.Bracket.{Brackets, FineEnough}
 use Rattle.packing.specs.Packing.{PacksUp, PacksDown, TellsRepresentable}
-
--- Both of two truth values.
-both-told : (x : Bool) {Q : Type 0} {t : Bool} → Answers Q t → Answers ((x ≡ true) × Q) (x && t)
-both-told true h = answers-iff (λ q. (refl, q)) (λ k. k .1) h
-both-told false h = denied (λ k. false≢true (k .0))
 
 -- A pattern that is not below n / d and whose smaller ones are, cut at infinity's.
 lands-up : (F : Format) (n d p : ℕ) → n ≤ value (F .frac) p * d → ((c : ℕ) → c < p → value (F .frac) c * d < n)
@@ -60,7 +55,7 @@ module _ (F : Format) {n d q k : ℕ} {x : Bool} (some : 0 < d) (fine : FineEnou
 
   -- A value is a pattern's worth if it was not cut, and if the pattern of its digits is finite. No pattern lies between two neighbours.
   told-representable : {t : Bool} → Answers (k * 2 ^ F .frac + q < infinity F) t → Answers (Representable F n d) (x && t)
-  told-representable finite = answers-iff forth back (both-told x finite)
+  told-representable finite = answers-iff forth back (answers-and (answers-itself x) finite)
     where
       forth : (x ≡ true) × (k * 2 ^ F .frac + q < infinity F) → Representable F n d
       forth h = record { pattern = k * 2 ^ F .frac + q; finite = h .1; eq = ap (λ (v : ℕ). v * d) here ∙ b .told .0 (h .0) }

@@ -95,6 +95,15 @@ module _ (F : Format) (a b : ℕ) where
   worthless : (c : ℕ) → magnitude F c ≡ 0 → worth c ≡ 0
   worthless c none = ap (value (F .frac)) none ∙ value-zero (F .frac)
 
+  first-nothing : magnitude F a ≡ 0 → worth a * worth b ≡ 0
+  first-nothing none = ap (λ (v : ℕ). v * worth b) (worthless a none) ∙ zero-mul (worth b)
+
+  second-nothing : magnitude F b ≡ 0 → worth a * worth b ≡ 0
+  second-nothing none = ap (λ (v : ℕ). worth a * v) (worthless b none) ∙ mul-zero (worth a)
+
+  dividend-nothing : magnitude F a ≡ 0 → worth a * 2 ^ F .point ≡ 0
+  dividend-nothing none = ap (λ (v : ℕ). v * 2 ^ F .point) (worthless a none) ∙ zero-mul (2 ^ F .point)
+
   pub product-up : {r : ℕ} → Up F (signed differ (worth a * worth b) (2 ^ F .point)) r → Up F (productOf F a b) r
   unfolding productOf plus minus
   product-up up =
@@ -108,13 +117,13 @@ module _ (F : Format) (a b : ℕ) where
       up-same F _ _ (same .0) (same .1) up
 
   pub product-first-zero : magnitude F a ≡ 0 → Up F (productOf F a b) 0
-  product-first-zero none = product-up (zero-up F differ (ap (λ (v : ℕ). v * worth b) (worthless a none) ∙ zero-mul (worth b)) (pow-pos (F .point)))
+  product-first-zero none = product-up (zero-up F differ (first-nothing none) (pow-pos (F .point)))
 
   pub product-second-zero : magnitude F b ≡ 0 → Up F (productOf F a b) 0
-  product-second-zero none = product-up (zero-up F differ (ap (λ (v : ℕ). worth a * v) (worthless b none) ∙ mul-zero (worth a)) (pow-pos (F .point)))
+  product-second-zero none = product-up (zero-up F differ (second-nothing none) (pow-pos (F .point)))
 
   pub quotient-zero : 0 < worth b → magnitude F a ≡ 0 → Up F (quotientOf F a b) 0
-  quotient-zero some none = quotient-up (zero-up F differ (ap (λ (v : ℕ). v * 2 ^ F .point) (worthless a none) ∙ zero-mul (2 ^ F .point)) some)
+  quotient-zero some none = quotient-up (zero-up F differ (dividend-nothing none) some)
 
   -- whether the same are the worth of some pattern
   pub product-reached : {x : Bool} → Answers (Reached F (signed differ (worth a * worth b) (2 ^ F .point))) x → Answers (Reached F (productOf F a b)) x
@@ -130,10 +139,10 @@ module _ (F : Format) (a b : ℕ) where
       reached-same F _ _ (same .0) (same .1) told
 
   pub product-first-nothing : magnitude F a ≡ 0 → Answers (Reached F (productOf F a b)) true
-  product-first-nothing none = product-reached (zero-reached F differ (2 ^ F .point) (ap (λ (v : ℕ). v * worth b) (worthless a none) ∙ zero-mul (worth b)))
+  product-first-nothing none = product-reached (zero-reached F differ (2 ^ F .point) (first-nothing none))
 
   pub product-second-nothing : magnitude F b ≡ 0 → Answers (Reached F (productOf F a b)) true
-  product-second-nothing none = product-reached (zero-reached F differ (2 ^ F .point) (ap (λ (v : ℕ). worth a * v) (worthless b none) ∙ mul-zero (worth a)))
+  product-second-nothing none = product-reached (zero-reached F differ (2 ^ F .point) (second-nothing none))
 
   pub quotient-nothing : magnitude F a ≡ 0 → Answers (Reached F (quotientOf F a b)) true
-  quotient-nothing none = quotient-reached (zero-reached F differ (worth b) (ap (λ (v : ℕ). v * 2 ^ F .point) (worthless a none) ∙ zero-mul (2 ^ F .point)))
+  quotient-nothing none = quotient-reached (zero-reached F differ (worth b) (dividend-nothing none))

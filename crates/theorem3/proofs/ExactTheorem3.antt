@@ -1,23 +1,21 @@
 -- Demand 3 with the exactness of each end, for any format: the answer of theorem 3, and its flags, are the only ones.
 use mathlib.Core.Bool.{Bool, true}
-use mathlib.Core.Path.{_≡_, subst}
+use mathlib.Core.Path.{_≡_}
 use Prim.Native.Nat.{_+_, _*_}
 use Rattle.truth.specs.Answers.{Answers, affirmed, denied}
 use Rattle.truth.proofs.AnswerLaws.{answers-eq}
 use Rattle.patterns.specs.Format.{Format}
 use Rattle.meaning.specs.Fraction.{Fraction}
 use Rattle.meaning.specs.Sets.{End, at, unbounded, SameEnd, sameNumber, sameNone}
-use Rattle.meaning.specs.Pairs.{Pair, Bare, emptyPair, endOf, setOf}
-use Rattle.meaning.specs.Hull.{EndOfFormat}
+use Rattle.meaning.specs.Pairs.{Pair, Bare, endOf, setOf}
 use Rattle.meaning.specs.Points.{neg}
 use Rattle.meaning.specs.Results.{point}
-use Rattle.meaning.specs.Statement.{Outcome, HullOf, given, right₁, right₂, bareGood}
-use Rattle.meaning.specs.Supremum.{UpperEndTold}
+use Rattle.meaning.specs.Statement.{Outcome, given, right₁, right₂, bareGood}
 use Rattle.meaning.specs.Exactness.{ExactPair, ExactHullOf, Exact₁, Exact₂}
 use Rattle.meaning.proofs.PairLaws.{set-valid}
-use Rattle.meaning.proofs.PatternHull.{pairBy, hull-of-none}
-use Rattle.meaning.proofs.Unique.{hull-once}
-use Rattle.meaning.proofs.ExactLaws.{told-end, exact-of-ends, exact-of-none, exact₁-once, exact₂-once}
+use Rattle.meaning.proofs.PatternHull.{hull-of-none}
+use Rattle.meaning.proofs.ExactEnds.{UpperEndTold}
+use Rattle.meaning.proofs.ExactLaws.{exact-of-ends, exact-of-none, exact₁-once, exact₂-once}
 use Rattle.theorem3.specs.Answer.{Arithmetic, binary, Bounds, nothing, between, TrueBounds, noResults, someResults, boundsOf, boundsOfNeg}
 use Rattle.theorem3.specs.Told.{sameBy}
 use Rattle.theorem3.proofs.TrueBounds.{bounds-right, neg-bounds-right}
@@ -50,19 +48,6 @@ exact-right : (F : Format) {R : Fraction → Type 0} {B : Bounds} → TrueBounds
 unfolding exactAnswer answer
 exact-right F {R} (noResults none) = exact-of-none F R (hull-of-none F R none)
 exact-right F {R} (someResults {l} {u} s m top bottom) = exact-of-ends F R top bottom (exact-by F u) (exact-by F l) s m
-
--- The flags of any hull, by whether the true bounds are ends of the format.
-pub exact-between : (F : Format) {R : Fraction → Type 0} {l u : End} {s t : Bool} {z : Pair} → TrueBounds R (between l u)
-    → Answers (EndOfFormat F l) s → Answers (EndOfFormat F u) t → HullOf F R z → ExactHullOf F R (record { pair = z; lowerExact = s; upperExact = t })
-exact-between F {R} {l} {u} {s} {t} {z} (someResults r m top bottom) down up hull =
-    let exact = exact-of-ends F R top bottom (told-end F (rounded F u .1) up) (told-end F (rounded F l .1) down) r m in
-    subst (λ (p : Pair). ExactHullOf F R (record { pair = p; lowerExact = s; upperExact = t })) (hull-once F R (pairBy F (rounded F l .0) (rounded F u .0)) z (exact .answer) hull) exact
-
-pub exact-nothing : (F : Format) {R : Fraction → Type 0} {z : Pair} → TrueBounds R nothing → HullOf F R z
-    → ExactHullOf F R (record { pair = z; lowerExact = true; upperExact = true })
-exact-nothing F {R} {z} (noResults none) hull =
-    subst (λ (p : Pair). ExactHullOf F R (record { pair = p; lowerExact = true; upperExact = true })) (hull-once F R (emptyPair F) z (hull-of-none F R none) hull)
-    (exact-of-none F R (hull-of-none F R none))
 
 -- Sum, difference, product and quotient of two valid operands.
 pub theorem3-exact : (F : Format) (op : Arithmetic) (x y : Pair) → Bare F x → Bare F y

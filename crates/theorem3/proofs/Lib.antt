@@ -12,4 +12,5 @@ pub mod TrueBounds
 pub mod UpEnd
 pub mod Rounding
 pub mod Theorem3
+pub mod ExactBounds
 pub mod ExactTheorem3

@@ -1,5 +1,5 @@
 -- Truth values that answer a question: made by a test, and read by a branch.
-use mathlib.Core.Bool.{Bool, true, false, not}
+use mathlib.Core.Bool.{Bool, true, false, not, _&&_}
 use mathlib.Core.Logic.{_⊎_, inr, ⊎-elim}
 use mathlib.Core.Path.{_≡_, refl, sym, subst}
 use Prim.Native.Nat.{ℕ, _<_, _≤_}
@@ -57,3 +57,13 @@ answers-once P b c (affirmed p) (affirmed q) = refl
 answers-once P b c (affirmed p) (denied n) = absurd (n p)
 answers-once P b c (denied n) (affirmed p) = absurd (n p)
 answers-once P b c (denied n) (denied m) = refl
+
+-- A truth value answers whether it is true, and two of them whether both questions are answered with yes.
+pub answers-itself : (t : Bool) → Answers (t ≡ true) t
+answers-itself true = affirmed refl
+answers-itself false = denied (λ e. subst T (sym e) tt)
+
+pub answers-and : {P Q : Type 0} {t u : Bool} → Answers P t → Answers Q u → Answers (P × Q) (t && u)
+answers-and (affirmed p) (affirmed q) = affirmed (p, q)
+answers-and (affirmed p) (denied n) = denied (λ h. n (h .1))
+answers-and (denied n) q = denied (λ h. n (h .0))

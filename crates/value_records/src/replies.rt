@@ -3,6 +3,7 @@
 //  Answer                                  | Bytes
 // -----------------------------------------+-----------------------------------------------------------------
 //  bare interval                           | its two ends, as they are
+//  bare interval with exact ends           | its two ends, as they are, and 1 for an exact lower and 2 for an exact upper end, added up
 //  decorated interval                      | its two ends, as they are, and its decoration's byte
 //  end                                     | its eight bytes
 //  truth value, class, state or decoration | one byte: 0 or 1, the class or the state by its place in the order
@@ -31,6 +32,7 @@ use lent_calls::ANSWER_AT;
 use lent_calls::NUMBER_AT;
 use lent_calls::PLACE_AT;
 use lent_calls::REPLY;
+use lent_calls::flag_byte;
 use lent_intervals::BARE;
 use overlap::DecState;
 use overlap::OverlapAnswer;
@@ -135,18 +137,14 @@ pub fn decorated(r: DecAnswer) -> Said {
     }
 }
 
-fn flag(b: bool) -> u8 {
-    if b { 1 } else { 0 }
-}
-
 // The interval, and behind it 1 for the first flag and 2 for the second, added up.
 pub fn flagged_interval(x: Interval, first: bool, second: bool) -> Said {
-    accepted(x.ends, flag(first) | (flag(second) << 1))
+    accepted(x.ends, flag_byte(first) | (flag_byte(second) << 1))
 }
 
 pub fn truth(r: BoolAnswer) -> Said {
     match r {
-        BoolAnswer::Given(b) => one_byte(flag(b)),
+        BoolAnswer::Given(b) => one_byte(flag_byte(b)),
         BoolAnswer::Refused(refusal) => refused(refusal),
     }
 }

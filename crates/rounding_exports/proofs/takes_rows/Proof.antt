@@ -5,8 +5,8 @@ use mathlib.Core.Bool.{Bool, _&&_}
 use Prim.Native.Nat.{ℕ, _+_, _-_, _<_, _≤_}
 use native.Mathlib.Omega.{arith}
 use lib.ListN.{length, getD}
-use Rattle.truth.specs.Answers.{Answers, affirmed, denied}
-use Rattle.truth.proofs.AnswerLaws.{answers-iff}
+use Rattle.truth.specs.Answers.{Answers, affirmed}
+use Rattle.truth.proofs.AnswerLaws.{answers-iff, answers-and}
 use Rattle.rounding_runs.specs.Operations.{Takes}
 use Rattle.rounding_exports.proofs.takes_rows.Statement.{statement}
 use Rattle.rounding_exports.proofs.takes_rows.Tie as tie
@@ -14,9 +14,8 @@ use Rattle.rounding_exports.proofs.takes_rows.Tie as tie
 -- An answer for all before k and one for k make an answer for all before k + 1.
 one-more : (P : ℕ → Type 0) (k : ℕ) {t u : Bool} → Answers ((j : ℕ) → j < k → P j) t → Answers (P k) u
     → Answers ((j : ℕ) → j < k + 1 → P j) (t && u)
-one-more P k (affirmed before) (affirmed here) = affirmed (below-more P k before here)
-one-more P k (affirmed before) (denied never) = denied (λ all. never (all k (omega arith)))
-one-more P k (denied never) here = denied (λ all. never (λ j less. all j (omega arith)))
+one-more P k before here =
+    answers-iff (λ both. below-more P k (both .0) (both .1)) (λ all. (λ j less. all j (omega arith), all k (omega arith))) (answers-and before here)
 
 abbrev Inv-loop : tie.InvT-loop
 Inv-loop o a b all₀ k₀ all k = (k ≤ length a) × Answers ((j : ℕ) → j < k → Takes o (getD a j 0) (getD b j 0)) all

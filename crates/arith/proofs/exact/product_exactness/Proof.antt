@@ -4,7 +4,7 @@ use Rattle.patterns.specs.Format.{binary64}
 use Rattle.meaning.specs.Points.{mul}
 use Rattle.truth.proofs.AnswerLaws.{said-yes, said-no}
 use Rattle.theorem3.specs.Answer.{noResults}
-use Rattle.theorem3.proofs.ExactTheorem3.{exact-between, exact-nothing}
+use Rattle.theorem3.proofs.ExactBounds.{exact-between, exact-nothing}
 use Rattle.end_pairs.proofs.EmptyLaws.{neither-empty, empty-none₂}
 use Rattle.arith.proofs.BoundLaws.{product-bounds}
 use Rattle.arith.proofs.exact.product_exactness.Statement.{statement}

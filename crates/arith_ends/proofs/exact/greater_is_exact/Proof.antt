@@ -5,7 +5,7 @@ use mathlib.Core.Path.{sym, subst}
 use Rattle.truth.specs.Answers.{Answers}
 use Rattle.patterns.specs.Format.{binary64}
 use Rattle.meaning.proofs.FractionLaws.{le-or-le}
-use Rattle.meaning.proofs.ExactLaws.{told-end, end-told}
+use Rattle.meaning.proofs.ExactEnds.{told-end, end-told}
 use Rattle.truth.proofs.AnswerLaws.{said-yes, said-no}
 use Rattle.arith_ends.proofs.GreaterLaws.{greater-of, exchanged, greatest, tied-inexact, tied-exact}
 use Rattle.arith_ends.proofs.exact.greater_is_exact.Statement.{statement}

@@ -1,8 +1,8 @@
--- `flag_byte` meets its contract: 1 for true, and 0 for false.
+-- `flag::flag_byte` meets its contract: 1 for true, and 0 for false.
 use mathlib.Core.Path.{sym, ap}
 use Rattle.meaning.specs.ExactRequests.{flagByte}
-use Rattle.exact_request.proofs.flag_byte.Statement.{statement}
-use Rattle.exact_request.proofs.flag_byte.Tie as tie
+use Rattle.lent_calls.proofs.flag.flag_byte.Statement.{statement}
+use Rattle.lent_calls.proofs.flag.flag_byte.Tie as tie
 
 returns : tie.Need-returns
 returns c = sym (ap flagByte (c .if1 .taken))
