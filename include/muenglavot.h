@@ -10,9 +10,23 @@
  * A REQUEST
  *   One byte for the operation, then two operands, big endian: 33 bytes bare (answer 16), 35 decorated (answer 17).
  *   1 neg, 2 add, 3 sub, 4 mul, 5 div, 6 convex_hull, 7 intersection, 8 max, 9 min, 10 abs, 11 ceil, 12 floor, 13 round,
- *   14 round_ties_even, 15 sign, 16 trunc, 17 overlap.
+ *   14 round_ties_even, 15 sign, 16 trunc, 17 overlap, 18 equal, 19 subset, 20 interior, 21 disjoint, 22 less, 23 strict_less,
+ *   24 precedes, 25 strict_precedes.
  *   neg and 10 to 16 have one operand: the second is not read. overlap answers the number of its state, 0 BothEmpty to
- *   15 After (16 if an operand is NaI), and then zero bytes.
+ *   15 After (16 if an operand is NaI), and then zero bytes. 18 to 25 answer 1 for yes or 0 for no, and then zero bytes.
+ *
+ * COMPARISONS
+ *   18 to 25 ask about the members a of the first operand and b of the second. The answer is yes exactly if, for
+ *   equal            every a is a b, and every b is an a
+ *   subset           every a is a b
+ *   interior         every a has a b with a < b, and every a has a b with b < a
+ *   disjoint         no a is a b
+ *   less             every a has a b with a <= b, and every b has an a with a <= b
+ *   strict_less      every a has a b with a < b, and every b has an a with a < b
+ *   precedes         every a and every b: a <= b
+ *   strict_precedes  every a and every b: a < b
+ *   So EMPTY is a subset of every interval. Infinity is no member, so that an infinite end does not touch another one: ENTIRE
+ *   is interior to itself. If an operand is NaI, the answer is no. Decorations make no difference.
  *
  * EXACT ENDS
  *   A bare request for one of the operations 1 to 5 can also be answered by 18 bytes: the answer's 16, then one byte for the
@@ -26,7 +40,7 @@
  *   0  accepted: the answer fills the output
  *   1  the input's length is not the one that the call has
  *   2  the output's length is not exactly that of the answer
- *   3  the operation number is not 1 to 17, or not 1 to 5 where exact ends are asked for
+ *   3  the operation number is not 1 to 25, or not 1 to 5 where exact ends are asked for
  *   4  the decoration's byte is not 0, 4, 8, 12 or 16
  *   5  the ends are those of no interval: not in order, a wrong infinity, a wrong zero, or a NaN
  *   6  the decoration does not go with the ends: Ill on an interval, Com with an infinite end, EMPTY without Trv, two NaNs

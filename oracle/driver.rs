@@ -9,7 +9,7 @@
 //!
 //! The crate has no refusal numbers. Where it refuses an operand's bytes, the
 //! number is 255 with the operand's place; for an operation number that is not
-//! 1 to 17, or a function number that is none, it is 255 with place 0. Where the
+//! 1 to 25, or a function number that is none, it is 255 with place 0. Where the
 //! crate cannot be asked, the number is 254. The answer is then all zero.
 
 mod values;
@@ -38,6 +38,11 @@ fn padded<const N: usize>(bytes: &[u8]) -> [u8; N] {
     all
 }
 
+/// A truth value, with zeros behind it.
+fn flag<const N: usize>(answer: bool) -> [u8; N] {
+    padded(&[answer.into()])
+}
+
 /// The operand at a place of a request whose operands are N bytes long each.
 fn bytes_at<const N: usize>(request: &[u8], place: u8) -> [u8; N] {
     let from = 1 + (usize::from(place) - 1) * N;
@@ -50,7 +55,7 @@ macro_rules! operation {
     ($name:ident, $Type:ty, $N:literal, $overlap:expr) => {
         fn $name(number: u8, operand: impl Fn(u8) -> Option<$Type>) -> Answer<$N> {
             let operand = |place| operand(place).ok_or([REFUSED, place]);
-            if !(1..=17).contains(&number) {
+            if !(1..=25).contains(&number) {
                 return Err([REFUSED, 0]);
             }
             let x = operand(1)?;
@@ -74,7 +79,15 @@ macro_rules! operation {
                         7 => x.intersection(y),
                         8 => x.max(y),
                         9 => x.min(y),
-                        _ => return Ok(padded(&[$overlap(x, y)])),
+                        17 => return Ok(padded(&[$overlap(x, y)])),
+                        18 => return Ok(flag(x == y)),
+                        19 => return Ok(flag(x.subset(y))),
+                        20 => return Ok(flag(x.interior(y))),
+                        21 => return Ok(flag(x.disjoint(y))),
+                        22 => return Ok(flag(x.less(y))),
+                        23 => return Ok(flag(x.strict_less(y))),
+                        24 => return Ok(flag(x.precedes(y))),
+                        _ => return Ok(flag(x.strict_precedes(y))),
                     }
                 }
             };

@@ -18,8 +18,9 @@ from compare import answers, driver, stop
 from differences import judge
 from forms import FORMS
 from muenglavot_reference import values
+from muenglavot_reference.answers import ONE_BYTE
 from muenglavot_reference.document import (
-    ENDS, NUMBER, TOO_SHORT, operands_read, proper, refusal, refused)
+    ENDS, TOO_SHORT, operands_read, proper, refusal, refused)
 
 SEED = 1788
 DRAWN = 200_000
@@ -36,28 +37,32 @@ def sort_of(operand):
 
 
 def request_situation(request, answer):
-    """The operation, and the refusal, or the sorts of operands and the answer's last byte."""
+    """The operation, and the refusal, or the sorts of operands and what is told: an answer of
+    one byte, or the decoration, which is the last."""
     operation = request[0]
     number, place = refusal(request)
     if number == 3:
         return number
     if number:
         return operation, number, place
-    told = answer[2] if operation == NUMBER['overlap'] else answer[-1]
+    told = answer[2] if operation in ONE_BYTE else answer[-1]
     return operation, told, *map(sort_of, operands_read(request))
 
 
 def record_situation(record, answer):
     """The function, and the refusal, or whether the first operand is NaI, EMPTY, or has a
-    zero of the other sign."""
+    zero of the other sign; with an answer of one byte to two operands, that and their sorts."""
     number, place = values.refusal(record)
     if number == 3:
         return number
     if number:
         return record[0], number, place
+    given = [way.judged(operand) for _, way, operand in values.taken(record)]
+    if values.FUNCTIONS[record[0]].operation in ONE_BYTE:
+        return record[0], answer[2], *map(sort_of, given)
     told = []
-    for _, way, operand in values.taken(record)[:1]:
-        ends = ENDS.unpack_from(way.judged(operand))
+    for operand in given[:1]:
+        ends = ENDS.unpack_from(operand)
         told = ends[0] != ends[0], ends[0] > ends[1], proper(*ends)
     return record[0], *told
 

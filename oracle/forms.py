@@ -25,7 +25,7 @@ class Requests:
 
     @staticmethod
     def name(request):
-        return OPERATIONS[request[0] - 1] if 1 <= request[0] <= 17 else None
+        return OPERATIONS[request[0] - 1] if 1 <= request[0] <= len(OPERATIONS) else None
 
     @staticmethod
     def ill_pair_at(request, place):

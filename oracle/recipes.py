@@ -3,7 +3,7 @@
 import sys
 from math import inf, ldexp, nextafter, ulp
 
-from muenglavot_reference.document import NUMBER
+from muenglavot_reference.document import COMPARISONS, NUMBER
 
 LARGEST = sys.float_info.max
 NORMAL = sys.float_info.min
@@ -34,6 +34,7 @@ class Recipes:
         quotients = (self.exact_quotient, self.nearest_quotient, self.scaled_quotient, self.small_halves,
                      self.divisor_at_zero, self.divisor_at_zero)
         wholes = (self.halves, self.halves, self.large_halves, self.near_one)
+        orders = (self.few_values, self.neighbours, self.touching, self.same_ends, self.unbounded)
         self.by_operation = {number: everywhere for number in NUMBER.values()}
         for names, recipes in (
                 (('add', 'sub'), sums),
@@ -44,6 +45,7 @@ class Recipes:
                  (self.few_values, self.few_values, self.halves))):
             for name in names:
                 self.by_operation[NUMBER[name]] = everywhere + recipes
+        self.by_operation.update(dict.fromkeys(COMPARISONS, everywhere + orders))
 
     def pick(self, values):
         return values[int(self.random() * len(values))]
@@ -93,6 +95,29 @@ class Recipes:
         """Ends below, at and above zero, so that all classes meet."""
         size = abs(self.pick(EDGES))
         return [self.pick((-size, 0.0, 0.0, size, 1.0, -1.0)) for _ in range(4)]
+
+    def neighbours(self):
+        """Ends that are equal or a few units apart."""
+        middle = self.pick(self.edges() + self.anywhere())
+        return [self.nudged(middle) for _ in range(4)]
+
+    def touching(self):
+        """One operand that ends where the other begins, or a unit or two off."""
+        first, middle, last = sorted(self.pick((self.edges, self.near))()[:3])
+        ends = [first, middle, self.nudged(middle), last]
+        return ends if self.bits(1) else ends[2:] + ends[:2]
+
+    def same_ends(self):
+        """Two operands with the same ends, or with ends a unit or two off."""
+        a, b = self.pick((self.edges, self.near))()[:2]
+        return [a, b, self.nudged(a), self.nudged(b)]
+
+    def unbounded(self):
+        """The same, with no bound on a side of one operand or both."""
+        a, b, c, d = self.same_ends()
+        return self.pick((
+            [-inf, b, -inf, d], [a, inf, c, inf], [-inf, inf, c, inf], [a, b, -inf, d],
+            [-inf, b, c, inf], [a, inf, -inf, inf]))
 
     def halfway_sum(self):
         """A second operand of some units and a half in the first one's last place."""

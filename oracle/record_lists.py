@@ -38,7 +38,7 @@ class Generator(request_lists.Generator):
 
     def record(self, number):
         function = FUNCTIONS[number]
-        request = self.request(function.operation or 1 + int(self.random() * 17))
+        request = self.request(function.operation or self.pick(self.numbers))
         given = [self.zeros_of_any_sign(operand) for operand in operands(request)]
         for place, way in enumerate(function.takes):
             given[place] = way.in_order(given[place])
@@ -73,10 +73,13 @@ def taken_operands(way, all_operands):
     return list(dict.fromkeys(way.in_order(operand)[:16] + UNREAD for operand in all_operands))
 
 
-def exhaustive():
+def exhaustive(only=None):
+    """The exhaustive list, or its records for some operations only."""
     singles = [a + b + bytes([decoration]) for a in ALL_ENDS for b in ALL_ENDS
                for decoration in (*DECORATIONS, NO_DECORATION)]
     for number, function in FUNCTIONS.items():
+        if only and function.operation not in only:
+            continue
         firsts = seconds = [UNREAD * 17]
         if len(function.takes) == 1:
             firsts = taken_operands(function.takes[0], singles)

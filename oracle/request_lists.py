@@ -1,6 +1,6 @@
 """Lists of requests: drawn with a seed, and exhaustive.
 
-The first goes round the operations 1 to 17. Its ends come from recipes that each seek
+The first goes round the operations 1 to 25. Its ends come from recipes that each seek
 out one sort of trouble; some operands and requests are then spoilt. The second takes
 all pairs of intervals with ends from a fixed set.
 """
@@ -14,6 +14,8 @@ from muenglavot_reference.document import (
 from recipes import LARGEST, NORMAL, TINY, Recipes, both_signs
 
 SIGNALLING = 0x7FF0000000000001
+# Numbers that no operation has: before the first, behind the last, and the greatest.
+NO_OPERATIONS = (0, len(NUMBER) + 1, len(NUMBER) + 2, 255)
 
 
 def joined(a, b):
@@ -104,7 +106,7 @@ class Generator:
         """A request with a bit turned, another operation number, or of chance bytes."""
         way = self.bits(3)
         if way == 0:
-            return self.pick((0, 18, 19, 255, self.bits(8))).to_bytes(1, 'big') + request[1:]
+            return bytes([self.pick((*NO_OPERATIONS, self.bits(8)))]) + request[1:]
         if way == 1:
             return request[:1] + self.rng.randbytes(len(request) - 1)
         damaged = bytearray(request)
@@ -145,13 +147,14 @@ def all_operands(ends, decorated):
     return list(dict.fromkeys(operand[:16] for operand in found))
 
 
-def exhaustive(kind):
+def exhaustive(kind, only=None):
+    """The exhaustive list, or its requests for some operations only."""
     decorated = kind == 'decorated'
     pairs_of = all_operands(DECORATED_ENDS if decorated else BARE_ENDS, decorated)
     singles = all_operands(WHOLE_ENDS, decorated)
     # The second operand is not read, so it may be anything.
     unread = b'\xff' * OPERAND[kind]
-    for number in NUMBER.values():
+    for number in only or NUMBER.values():
         operation = bytes([number])
         if number in ONE_OPERAND:
             for x in singles:

@@ -1,7 +1,8 @@
 //! Answers records of calls by value, under the numbers of crates/value_run.
 
 use crate::{
-    bare_operation, bytes_at, decorated_operation, padded, Answer, MISSING, NOT_ASKED, REFUSED,
+    bare_operation, bytes_at, decorated_operation, flag, padded, Answer, MISSING, NOT_ASKED,
+    REFUSED,
 };
 use inari::{DecInterval, Decoration, Interval};
 
@@ -10,10 +11,6 @@ const GROUP: u8 = 32;
 
 /// What is refused of the first operand, or of the only one.
 const FIRST: [u8; 2] = [REFUSED, 1];
-
-fn flag(answer: bool) -> [u8; 17] {
-    padded(&[answer.into()])
-}
 
 /// The two ends of an operand.
 fn ends(operand: [u8; 17]) -> (f64, f64) {
@@ -60,7 +57,7 @@ fn decoration(record: &[u8], place: u8) -> Result<Decoration, [u8; 2]> {
 /// An operation whose operands all have a decoration.
 fn known_operation(number: u8, record: &[u8]) -> Answer<17> {
     decoration(record, 1)?;
-    if matches!(number, 2..=9 | 17) {
+    if matches!(number, 2..=9 | 17..=25) {
         decoration(record, 2)?;
     }
     decorated_operation(number, |place| decorated(record, place))
@@ -143,9 +140,9 @@ pub fn answer(record: &[u8]) -> Answer<17> {
     let number = record[0];
     let operation = number % GROUP;
     match number {
-        1..=17 | 161..=177 => known_operation(operation, record),
+        1..=25 | 161..=185 => known_operation(operation, record),
         // The crate reports no exact ends, so that the last byte stays 0.
-        33..=49 | 193..=209 | 225..=229 => {
+        33..=57 | 193..=217 | 225..=229 => {
             bare_operation(operation, |place| bare(record, place)).map(|x| padded(&x))
         }
         64..=75 => bare_function(number, record),

@@ -10,7 +10,10 @@ sys.path[:0] = [str(ROOT / 'oracle'), str(ROOT / 'python')]
 import request_lists
 from muenglavot_reference.document import ARITHMETIC, ENDS, NUMBER
 from recipes import LARGEST, TINY, Recipes
-from request_lists import DECORATED_ENDS, all_operands, joined
+from request_lists import DECORATED_ENDS, NO_OPERATIONS, all_operands, joined
+
+# Numbers of operations that report no exact ends, the first and the last of them, and of none.
+OTHER_NUMBERS = (NUMBER['convex_hull'], NUMBER['strict_precedes'], *NO_OPERATIONS)
 
 
 class ExactRecipes(Recipes):
@@ -74,7 +77,7 @@ class Generator(request_lists.Generator):
         """A request that is spoilt as the oracle's are, or with the number of another operation."""
         if self.bits(1):
             return super().spoilt(request)
-        return bytes([self.pick((0, 6, 17, 18, 255, self.bits(8)))]) + request[1:]
+        return bytes([self.pick((*OTHER_NUMBERS, self.bits(8)))]) + request[1:]
 
 
 def all_pairs():

@@ -12,6 +12,16 @@
 
 typedef uint32_t (*Call)(const uint8_t *, size_t, uint8_t *, size_t);
 
+/* Operations by their numbers. NEG to DIV are those whose exact ends can be asked for, EQUAL to STRICT_PRECEDES the comparisons. */
+enum {
+    NEG = 1, ADD, SUB, MUL, DIV,
+    OVERLAP = 17, EQUAL, SUBSET, INTERIOR, DISJOINT, LESS, STRICT_LESS, PRECEDES, STRICT_PRECEDES,
+    FIRST_OPERATION = NEG, LAST_OPERATION = STRICT_PRECEDES,
+};
+
+/* Bytes of decorations. */
+enum { ILL = 0, TRV = 4, COM = 16 };
+
 static unsigned passed, failed;
 
 static void expect(int right, const char *what, unsigned detail)
@@ -89,6 +99,12 @@ static void interval(uint8_t *bytes, double lower, double upper)
     number(bytes + 8, upper);
 }
 
+static void decorated(uint8_t *bytes, double lower, double upper, uint8_t decoration)
+{
+    interval(bytes, lower, upper);
+    bytes[MUENGLAVOT_BARE] = decoration;
+}
+
 static uint32_t refusal(uint32_t kind, uint32_t place)
 {
     return kind + 256 * place;
@@ -116,19 +132,19 @@ static void bare_requests(void)
     const double inf = 1.0 / 0.0;
     uint8_t request[MUENGLAVOT_BARE_REQUEST], answer[MUENGLAVOT_BARE];
 
-    request[0] = 2;
+    request[0] = ADD;
     interval(request + 1, 1, 2);
     interval(request + 17, 3, 4);
     interval(answer, 4, 6);
     run(muenglavot_request_bare, request, sizeof request, sizeof answer, 0, answer, "bare sum");
     lengths(muenglavot_request_bare, sizeof request, sizeof answer, request, "bare lengths");
     for (int op = 0; op < 256; op++) {
-        if (op < 1 || op > 17) {
+        if (op < FIRST_OPERATION || op > LAST_OPERATION) {
             request[0] = (uint8_t)op;
             run(muenglavot_request_bare, request, sizeof request, sizeof answer, 3, NULL, "bare operation number");
         }
     }
-    request[0] = 2;
+    request[0] = ADD;
     interval(request + 1, 0.0, 1);
     run(muenglavot_request_bare, request, sizeof request, sizeof answer, refusal(5, 1), NULL, "wrong zero");
     interval(request + 1, 2, 1);
@@ -136,18 +152,15 @@ static void bare_requests(void)
     interval(request + 1, 1, 2);
     interval(request + 17, inf, inf);
     run(muenglavot_request_bare, request, sizeof request, sizeof answer, refusal(5, 2), NULL, "second at infinity");
-    request[0] = 1;
+    request[0] = NEG;
     interval(answer, -2, -1);
     run(muenglavot_request_bare, request, sizeof request, sizeof answer, 0, answer, "neg reads no second operand");
-    request[0] = 17;
+    request[0] = OVERLAP;
     interval(request + 17, 2, 3);
     memset(answer, 0, sizeof answer);
     answer[0] = 4;
     run(muenglavot_request_bare, request, sizeof request, sizeof answer, 0, answer, "overlap");
 }
-
-/* The operations whose exact ends can be asked for. */
-enum { NEG = 1, ADD, SUB, MUL, DIV };
 
 /* A request for an answer with its exact ends, and that answer: its ends, and which of them are exact. */
 typedef struct {
@@ -232,7 +245,7 @@ static void decorated_requests(void)
     const double inf = 1.0 / 0.0, nan = __builtin_nan("");
     uint8_t request[MUENGLAVOT_DECORATED_REQUEST], answer[MUENGLAVOT_DECORATED];
 
-    request[0] = 3;
+    request[0] = SUB;
     interval(request + 1, 5, 6);
     request[17] = 16;
     interval(request + 18, 1, 2);
@@ -267,8 +280,80 @@ static void decorated_requests(void)
     interval(request + 1, inf, -inf);
     request[17] = 8;
     run(muenglavot_request_decorated, request, sizeof request, sizeof answer, refusal(6, 1), NULL, "EMPTY without Trv");
-    request[0] = 18;
+    request[0] = LAST_OPERATION + 1;
     run(muenglavot_request_decorated, request, sizeof request, sizeof answer, 3, NULL, "3 before 6");
+    request[0] = FIRST_OPERATION - 1;
+    run(muenglavot_request_decorated, request, sizeof request, sizeof answer, 3, NULL, "3 before 6");
+}
+
+/* Two operands, and what each comparison answers, in the order of their numbers. */
+typedef struct {
+    const char *what;
+    double first[2], second[2];
+    uint8_t yes[STRICT_PRECEDES - EQUAL + 1];
+} Compared;
+
+static void comparison_answers(void)
+{
+    const double inf = 1.0 / 0.0;
+    const Compared cases[] = {
+        {"compared with itself", {1, 2}, {1, 2}, {1, 1, 0, 0, 1, 0, 0, 0}},
+        {"compared, apart", {1, 2}, {3, 4}, {0, 0, 0, 1, 1, 1, 1, 1}},
+        {"compared, touching", {1, 2}, {2, 3}, {0, 0, 0, 0, 1, 1, 1, 0}},
+        {"compared, inside", {1.25, 1.5}, {1, 2}, {0, 1, 1, 0, 0, 0, 0, 0}},
+        {"compared, inside with a shared end", {1, 1.5}, {1, 2}, {0, 1, 0, 0, 1, 0, 0, 0}},
+        {"compared, around", {1, 2}, {1.25, 1.5}, {0, 0, 0, 0, 0, 0, 0, 0}},
+        {"compared, zero alone", {-0.0, 0.0}, {-0.0, 0.0}, {1, 1, 0, 0, 1, 0, 1, 0}},
+        {"compared, no bound above", {1, inf}, {-1, inf}, {0, 1, 1, 0, 0, 0, 0, 0}},
+        {"compared, no bounds", {-inf, inf}, {-inf, inf}, {1, 1, 1, 0, 1, 1, 0, 0}},
+        {"compared, EMPTY twice", {inf, -inf}, {inf, -inf}, {1, 1, 1, 1, 1, 1, 1, 1}},
+        {"compared, EMPTY first", {inf, -inf}, {1, 2}, {0, 1, 1, 1, 0, 0, 1, 1}},
+        {"compared, EMPTY second", {1, 2}, {inf, -inf}, {0, 0, 0, 1, 0, 0, 1, 1}},
+    };
+    uint8_t bare[MUENGLAVOT_BARE_REQUEST], both[MUENGLAVOT_DECORATED_REQUEST], answer[MUENGLAVOT_DECORATED] = {0};
+
+    for (size_t i = 0; i < sizeof cases / sizeof cases[0]; i++) {
+        const Compared *one = &cases[i];
+
+        interval(bare + 1, one->first[0], one->first[1]);
+        interval(bare + 17, one->second[0], one->second[1]);
+        decorated(both + 1, one->first[0], one->first[1], TRV);
+        decorated(both + 18, one->second[0], one->second[1], TRV);
+        for (uint8_t op = EQUAL; op <= STRICT_PRECEDES; op++) {
+            bare[0] = op;
+            both[0] = op;
+            answer[0] = one->yes[op - EQUAL];
+            run(muenglavot_request_bare, bare, sizeof bare, MUENGLAVOT_BARE, 0, answer, one->what);
+            run(muenglavot_request_decorated, both, sizeof both, MUENGLAVOT_DECORATED, 0, answer, one->what);
+        }
+    }
+}
+
+static void comparison_operands(void)
+{
+    const double inf = 1.0 / 0.0, nan = __builtin_nan("");
+    const size_t out_len = MUENGLAVOT_DECORATED;
+    const uint8_t no[MUENGLAVOT_DECORATED] = {0};
+    uint8_t bare[MUENGLAVOT_BARE_REQUEST], both[MUENGLAVOT_DECORATED_REQUEST];
+
+    for (uint8_t op = EQUAL; op <= STRICT_PRECEDES; op++) {
+        bare[0] = op;
+        interval(bare + 1, 1, 2);
+        interval(bare + 17, 2, 1);
+        run(muenglavot_request_bare, bare, sizeof bare, MUENGLAVOT_BARE, refusal(5, 2), NULL, "compared, second");
+        interval(bare + 1, 0.0, 1);
+        run(muenglavot_request_bare, bare, sizeof bare, MUENGLAVOT_BARE, refusal(5, 1), NULL, "compared, first of two");
+        both[0] = op;
+        decorated(both + 1, 1, 2, COM);
+        decorated(both + 18, nan, nan, ILL);
+        run(muenglavot_request_decorated, both, sizeof both, out_len, 0, no, "compared with NaI");
+        decorated(both + 1, nan, nan, ILL);
+        run(muenglavot_request_decorated, both, sizeof both, out_len, 0, no, "NaI compared with itself");
+        decorated(both + 18, 1, 2, COM);
+        run(muenglavot_request_decorated, both, sizeof both, out_len, 0, no, "NaI compared");
+        decorated(both + 18, 1, inf, COM);
+        run(muenglavot_request_decorated, both, sizeof both, out_len, refusal(6, 2), NULL, "NaI compared, second");
+    }
 }
 
 static void reversed(uint8_t *to, const uint8_t *from)
@@ -314,6 +399,8 @@ int main(void)
     exact_answers();
     exact_refusals();
     decorated_requests();
+    comparison_answers();
+    comparison_operands();
     codecs();
     printf("%u passed, %u failed\n", passed, failed);
     return failed != 0;

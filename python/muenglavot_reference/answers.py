@@ -9,6 +9,12 @@ from .document import (
     operands_read, refusal, refused)
 
 NAI_OVERLAP = 16
+NO = 0
+
+# The operations that answer one byte, a state or 1 for yes and 0 for no, by their numbers:
+# on any intervals, and what NaI gets.
+ONE_BYTE = {NUMBER['overlap']: (exact.overlap, NAI_OVERLAP)} | {
+    NUMBER[name]: (holds, NO) for name, holds in exact.COMPARISONS.items()}
 
 # An operation on intervals that are not empty, by its number.
 FUNCTIONS = {NUMBER[name]: function for name, function in {
@@ -21,7 +27,7 @@ FUNCTIONS = {NUMBER[name]: function for name, function in {
 
 
 def bounds(operation, *given):
-    """The true bounds of all results of any operation but overlap; None if there is none."""
+    """The true bounds of all results, where these are numbers; None if there is none."""
     if operation == NUMBER['convex_hull']:
         return exact.convex_hull(*given)
     if None in given:
@@ -30,7 +36,7 @@ def bounds(operation, *given):
 
 
 def bare_result(operation, *given):
-    """The result of any operation but overlap, as an interval of doubles."""
+    """The result of an operation to numbers, as an interval of doubles."""
     return exact.outward(bounds(operation, *given))
 
 
@@ -96,12 +102,12 @@ def write(x):
 def result(operation, *given):
     """The bytes that an operation answers to accepted operands, of either kind."""
     decorations = [operand[16] for operand in given if len(operand) == OPERAND['decorated']]
-    is_overlap = operation == NUMBER['overlap']
+    if operation in ONE_BYTE:
+        function, of_nai = ONE_BYTE[operation]
+        return bytes([of_nai if ILL in decorations else function(*map(read, given))])
     if ILL in decorations:
-        return bytes([NAI_OVERLAP]) if is_overlap else NAI
+        return NAI
     exact_given = [read(operand) for operand in given]
-    if is_overlap:
-        return bytes([exact.overlap(*exact_given)])
     found = bare_result(operation, *exact_given)
     if not decorations:
         return write(found)

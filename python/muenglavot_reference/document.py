@@ -5,12 +5,15 @@ from struct import Struct
 
 OPERATIONS = (
     'neg', 'add', 'sub', 'mul', 'div', 'convex_hull', 'intersection', 'max', 'min',
-    'abs', 'ceil', 'floor', 'round', 'round_ties_even', 'sign', 'trunc', 'overlap')
+    'abs', 'ceil', 'floor', 'round', 'round_ties_even', 'sign', 'trunc', 'overlap',
+    'equal', 'subset', 'interior', 'disjoint', 'less', 'strict_less', 'precedes', 'strict_precedes')
 NUMBER = {name: number for number, name in enumerate(OPERATIONS, 1)}
 ONE_OPERAND = frozenset(NUMBER[name] for name in (
     'neg', 'abs', 'ceil', 'floor', 'round', 'round_ties_even', 'sign', 'trunc'))
 # The operations whose exact ends can be asked for.
 ARITHMETIC = tuple(NUMBER[name] for name in ('neg', 'add', 'sub', 'mul', 'div'))
+# The operations that answer yes or no.
+COMPARISONS = tuple(range(NUMBER['equal'], NUMBER['strict_precedes'] + 1))
 
 ILL, TRV, DEF, DAC, COM = DECORATIONS = (0, 4, 8, 12, 16)
 

@@ -5,7 +5,9 @@ infinity. Where nothing else is said, the operands are not empty.
 """
 
 from fractions import Fraction
+from itertools import pairwise
 from math import ceil, floor, inf
+from operator import eq, ge, gt, le, lt, ne
 
 from .doubles import up
 
@@ -146,3 +148,36 @@ def overlap(x, y):
         return 0 if x is y else 1 if x is None else 2
     [state] = [n for n, holds in enumerate(STATES, 3) if holds(*x, *y)]
     return state
+
+
+# Comparisons, by quantifiers over members.
+
+def members(x, marks):
+    """Members of x that stand for all where only their order among some marks counts: those
+    at a mark, and one between each two neighbours, below all and above all."""
+    marks = sorted(marks)
+    between = [(s + t) / 2 for s, t in pairwise(marks)]
+    return [t for t in (*marks, *between, marks[0] - 1, marks[-1] + 1) if x and x[0] <= t <= x[1]]
+
+
+def every(x, quantifier, y, related):
+    """Whether every member of x is related to any member of y, or to all.
+
+    Moving a member changes nothing until it meets an end or the other member, so that a few
+    stand for all. Zero is a mark too, since there may be no finite end."""
+    marks = {Fraction(0), *(t for z in (x, y) if z for t in z if abs(t) != inf)}
+    return all(quantifier(related(a, b) for b in members(y, marks | {a}))
+               for a in members(x, marks))
+
+
+# Each by its definition, which speaks of empty intervals too.
+COMPARISONS = {
+    'equal': lambda x, y: every(x, any, y, eq) and every(y, any, x, eq),
+    'subset': lambda x, y: every(x, any, y, eq),
+    'interior': lambda x, y: every(x, any, y, lt) and every(x, any, y, gt),
+    'disjoint': lambda x, y: every(x, all, y, ne),
+    'less': lambda x, y: every(x, any, y, le) and every(y, any, x, ge),
+    'strict_less': lambda x, y: every(x, any, y, lt) and every(y, any, x, gt),
+    'precedes': lambda x, y: every(x, all, y, le),
+    'strict_precedes': lambda x, y: every(x, all, y, lt),
+}

@@ -48,7 +48,7 @@ def judged(data):
 def refused():
     """Each refusal of a whole request, with its reply."""
     add, neg = NUMBER['add'], NUMBER['neg']
-    requests = [request(number) for number in (0, 18, 255)]
+    requests = [request(number) for number in (0, len(NUMBER) + 1, 255)]
     for bad in BAD_OPERANDS:
         requests += [request(add, bad, SECOND), request(add, bad, bad), request(add, FIRST, bad), request(neg, bad, SECOND)]
     # An unknown operation comes first, and the first operand before the second.

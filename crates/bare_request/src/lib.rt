@@ -13,10 +13,9 @@ mod operation;
 use lent_calls::BARE_REQUEST;
 use lent_calls::NUMBER_AT;
 use lent_intervals::BARE;
-pub use operation::Both;
+use operation::comparison;
 use operation::one_operand;
 use operation::overlap_state;
-pub use operation::read_both;
 use operation::two_operands;
 use operation_names::Asked;
 use operation_names::numbered;
@@ -31,6 +30,7 @@ fn answer(input: &[u8], output: &mut [u8]) -> Refusal
         Asked::One(f) => one_operand(f, input, output),
         Asked::Two(o) => two_operands(o, input, output),
         Asked::Overlap => overlap_state(input, output),
+        Asked::Comparison(c) => comparison(c, input, output),
         Asked::Nothing => Refusal::UNKNOWN_OPERATION,
     }
 }

@@ -25,11 +25,11 @@ use Rattle.cases.proofs.Tests.{split, upperTest, upper-tested}
 use Rattle.cases.proofs.RowTests.{bareTest, bare-tested}
 
 -- A flag says what the other truth value says.
-abbrev agrees : Bool → Bool → Bool
+abbrev pub agrees : Bool → Bool → Bool
 agrees true t = t
 agrees false t = not t
 
-agreed : (s t : Bool) → T (agrees s t) → s ≡ t
+pub agreed : (s t : Bool) → T (agrees s t) → s ≡ t
 agreed true true h = refl
 agreed true false h = absurd h
 agreed false true h = absurd h

@@ -6,7 +6,9 @@ pub mod StateTests
 pub mod QuantifiedText
 pub mod DecoratedTests
 pub mod ExactTests
+pub mod ComparisonTests
 pub mod TableLaws
 pub mod Examples
 pub mod WrongVersions
 pub mod WrongFlags
+pub mod WrongComparisons

@@ -10,12 +10,12 @@ use Rattle.meaning.specs.Fraction.{Fraction}
 use Rattle.meaning.specs.Sets.{Set}
 use Rattle.meaning.specs.Points.{Unary}
 use Rattle.meaning.specs.Results.{Operation}
-use Rattle.meaning.specs.Pairs.{Pair, Proper}
+use Rattle.meaning.specs.Pairs.{Pair, Proper, Bare}
 use Rattle.meaning.specs.Decorations.{Decoration, Trv}
 use Rattle.meaning.specs.Statement.{Outcome, refused, given, sound, wrong, bareGood, right₁, right₂, first₁, first₂, second₂, JudgedDecorated, decoratedGood, DecPair, RightDecorated, rightNaI, rightInterval, HullOf, Bare₁, Bare₂, Decorated₁, Decorated₂}
 use Rattle.meaning.specs.Overlap.{State, finishedBy, meets, BareOverlap, intervalState, DecOverlap}
 use Rattle.meaning.proofs.Unique.{bare₁-once, bare₂-once, hull-once}
-use Rattle.uniqueness.proofs.PairLaws.{proper-not-nans}
+use Rattle.uniqueness.proofs.PairLaws.{proper-not-nans, bare-not-nans}
 use Rattle.uniqueness.proofs.VerdictLaws.{judged-decorated-once}
 use Rattle.uniqueness.proofs.OverlapLaws.{bareOverlap-once, decOverlap-once}
 use Rattle.cases.specs.Rows.{RightState}
@@ -50,7 +50,7 @@ no-wrong₂ op f bad all =
     (bare₂-once binary64 op (e .x) (e .y) (all (e .x) (e .y)) (right₂ (bareGood (inl (e .proper))) (bareGood (inl (e .properToo))) (e .right)))
 
 -- Decorated operations: whatever the decoration of the answer, its interval is the bare one.
-abbrev trivially : Pair → DecPair
+abbrev pub trivially : Pair → DecPair
 trivially x = record { pair = x; decoration = Trv }
 
 pub data WrongDec (x : DecPair) : Outcome DecPair → Type 0 where
@@ -59,14 +59,14 @@ pub data WrongDec (x : DecPair) : Outcome DecPair → Type 0 where
   answersEmptyDec : (d : Decoration) → WrongDec x (given (record { pair = emptiness; decoration = d }))
   handsBackDec : WrongDec x (given x)
 
-sound-trivially : {x : Pair} → Proper binary64 x → JudgedDecorated binary64 (trivially x) sound
+pub sound-trivially : {x : Pair} → Bare binary64 x → JudgedDecorated binary64 (trivially x) sound
 sound-trivially {x} h =
-    decoratedGood (inl (inl h))
+    decoratedGood (inl h)
     (record {
       notIll = λ p e. let z : _≡_ {A = ℕ} 0 1 = cc in omega arith;
       bounded = λ p e. let z : _≡_ {A = ℕ} 0 1 = cc in absurd (omega arith);
       emptyTrv = λ k. refl;
-      nansIll = λ k. absurd (proper-not-nans binary64 x h k);
+      nansIll = λ k. absurd (bare-not-nans binary64 x h k);
     })
 
 -- The interval of a right decorated answer.
@@ -91,7 +91,7 @@ pub no-wrong-decorated₁ : (op : Unary) (f : DecPair → Outcome DecPair) → (
 no-wrong-decorated₁ op f bad all = let e = example₁ op in go e (bad (trivially (e .x))) (all (trivially (e .x)))
   where
     go : (e : Example₁ op) {o : Outcome DecPair} → WrongDec (trivially (e .x)) o → Decorated₁ binary64 op (trivially (e .x)) o → ⊥
-    go e b (first₁ j) = wrong-not-sound (trivially (e .x)) j (sound-trivially (e .proper))
+    go e b (first₁ j) = wrong-not-sound (trivially (e .x)) j (sound-trivially (inl (e .proper)))
     go e b (right₁ j r) = not-wrong-decorated (e .telling) (e .right) (proper-not-nans binary64 (e .x) (e .proper)) r b
 
 pub no-wrong-decorated₂ : (op : Operation) (f : DecPair → DecPair → Outcome DecPair) → ((x y : DecPair) → WrongDec x (f x y))
@@ -100,8 +100,8 @@ no-wrong-decorated₂ op f bad all =
     let e = example₂ op in go e (bad (trivially (e .x)) (trivially (e .y))) (all (trivially (e .x)) (trivially (e .y)))
   where
     go : (e : Example₂ op) {o : Outcome DecPair} → WrongDec (trivially (e .x)) o → Decorated₂ binary64 op (trivially (e .x)) (trivially (e .y)) o → ⊥
-    go e b (first₂ j) = wrong-not-sound (trivially (e .x)) j (sound-trivially (e .proper))
-    go e b (second₂ j k) = wrong-not-sound (trivially (e .y)) k (sound-trivially (e .properToo))
+    go e b (first₂ j) = wrong-not-sound (trivially (e .x)) j (sound-trivially (inl (e .proper)))
+    go e b (second₂ j k) = wrong-not-sound (trivially (e .y)) k (sound-trivially (inl (e .properToo)))
     go e b (right₂ j k r) =
         not-wrong-decorated (e .telling) (e .right)
         (⊎-elim (proper-not-nans binary64 (e .x) (e .proper)) (proper-not-nans binary64 (e .y) (e .properToo))) r b
@@ -143,7 +143,7 @@ two-three-proper = bounded-set binary64 (pair two three) tt .0
 decorated-state : {x y : Pair} {s : State} {n : ℕ} → Proper binary64 x → Proper binary64 y → RightState x y s n
     → DecOverlap binary64 (trivially x) (trivially y) (given n)
 decorated-state {x} {y} {s} p q right =
-    right₂ (sound-trivially p) (sound-trivially q)
+    right₂ (sound-trivially (inl p)) (sound-trivially (inl q))
     (intervalState (⊎-elim (proper-not-nans binary64 x p) (proper-not-nans binary64 y q))
     (record { state = s; holds = right .holds; is = right .numbered }))
 

@@ -3,3 +3,4 @@ pub mod Quantified
 pub mod Rows
 pub mod Table
 pub mod ExactTable
+pub mod ComparisonTable

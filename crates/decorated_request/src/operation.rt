@@ -3,55 +3,28 @@ ghost use mathlib.Core.List.{[]};
 ghost use mathlib.Core.Path.{_≡_};
 ghost use lib.ListN.{length};
 ghost use Rattle.patterns.specs.Format.{binary64};
-ghost use Rattle.meaning.specs.Bytes.{bigEndian, JudgedDecBytes, ReadDecorated};
 ghost use Rattle.meaning.specs.Calls.{Called};
-ghost use Rattle.meaning.specs.Requests.{DecoratedOutcome, unary, binary, overlap, firstOperand, secondOperand, decoratedSize};
-ghost use Rattle.meaning.specs.Statement.{Answered₂};
-ghost use Rattle.operation_names.specs.Names.{unaryOf, binaryOf};
-ghost use Rattle.request_laws.specs.Reads.{OnOperands, BothRead};
-ghost use Rattle.decorated_request.specs.DecOperandMeaning.{bothOf};
+ghost use Rattle.meaning.specs.Requests.{DecoratedOutcome, unary, binary, overlap, comparison, decoratedSize};
+ghost use Rattle.operation_names.specs.Names.{unaryOf, binaryOf, comparisonOf};
+ghost use Rattle.request_laws.specs.Reads.{OnOperands};
+use boolean::compares_dec;
 use dec_interval::DecAnswer;
-use dec_interval::DecInterval;
 use ends_in_bytes::ByteOrder;
 use lent_calls::FIRST_AT;
+use lent_calls::flag_byte;
 use lent_calls::write_state;
-use lent_intervals::DECORATED;
 use lent_intervals::read_decorated;
 use lent_intervals::write_decorated;
 use operation_names::Binary;
+use operation_names::Comparison;
 use operation_names::Unary;
 use operations::combine_dec;
 use operations::image_dec;
 use overlap::dec_state_number;
 use overlap::overlap_of_dec;
 use refusals::Refusal;
-use refusals::SECOND;
-
-// Where the second operand starts.
-const SECOND_AT: usize = FIRST_AT + DECORATED;
-
-// Two operands, or the refusal of the first that is wrong.
-pub enum Both {
-    Read(DecInterval, DecInterval),
-    Refused(Refusal),
-}
-
-fn read_both(input: &[u8]) -> Both
-    requires { ⌜ length (now input) ≡ 35 ⌝ }
-    ensures { λ r. ⌜ Answered₂ (JudgedDecBytes binary64 bigEndian) (BothRead (ReadDecorated binary64 bigEndian)) (firstOperand decoratedSize (now (input .entry))) (secondOperand decoratedSize (now (input .entry))) (bothOf r) ⌝ }
-{
-    match read_decorated(input, FIRST_AT, ByteOrder::Big) {
-        DecAnswer::Given(x) => match read_decorated(input, SECOND_AT, ByteOrder::Big) {
-            DecAnswer::Given(y) => Both::Read(x, y),
-            DecAnswer::Refused(refusal) => Both::Refused(Refusal {
-                number: refusal.number,
-                place: SECOND,
-                index: refusal.index,
-            }),
-        },
-        DecAnswer::Refused(refusal) => Both::Refused(refusal),
-    }
-}
+use request_operands::decorated::Both;
+use request_operands::decorated::read_both;
 
 pub fn one_operand(f: Unary, input: &[u8], output: &mut [u8]) -> Refusal
     requires { ⌜ (length (now input) ≡ 35) × (length (now output) ≡ 17) ⌝ }
@@ -86,6 +59,19 @@ pub fn overlap_state(input: &[u8], output: &mut [u8]) -> Refusal
     match read_both(input) {
         Both::Read(x, y) => {
             write_state(dec_state_number(overlap_of_dec(x, y)), output);
+            Refusal::NONE
+        }
+        Both::Refused(refusal) => refusal,
+    }
+}
+
+pub fn comparison(c: Comparison, input: &[u8], output: &mut [u8]) -> Refusal
+    requires { ⌜ (length (now input) ≡ 35) × (length (now output) ≡ 17) ⌝ }
+    ensures { λ r. ⌜ Called [] (OnOperands decoratedSize (DecoratedOutcome binary64) (comparison (comparisonOf c))) (now (input .entry)) (now (output .entry)) r (now (output .exit)) ⌝ }
+{
+    match read_both(input) {
+        Both::Read(x, y) => {
+            write_state(flag_byte(compares_dec(c, x, y)), output);
             Refusal::NONE
         }
         Both::Refused(refusal) => refusal,

@@ -1,5 +1,5 @@
 // Bare requests that report which ends are exact: 33 bytes, answered by 18. They stand on the arithmetic operations that report it
-// (`exact_operations`), and read their operands as the bare request does (`bare_request`).
+// (`exact_operations`), and on operands that are read as the bare request reads them (`request_operands`).
 ghost use mathlib.Core.List.{[], _∷_};
 ghost use mathlib.Core.Path.{_≡_};
 ghost use lib.ListN.{length};
@@ -11,8 +11,6 @@ ghost use Rattle.meaning.specs.ExactRequests.{ExactOutcome, ExactRequest, arith
 ghost use Rattle.operation_names.specs.Names.{arithmeticOf};
 ghost use Rattle.exact_operations.specs.ExactIntervals.{exactPairOf};
 ghost use Rattle.request_laws.specs.Reads.{OnOperands};
-use bare_request::Both;
-use bare_request::read_both;
 use ends_in_bytes::ByteOrder;
 use ends_in_bytes::write_ends;
 use exact_operations::ExactInterval;
@@ -29,6 +27,8 @@ use operation_names::Arithmetic;
 use operation_names::AskedExact;
 use operation_names::numbered_exact;
 use refusals::Refusal;
+use request_operands::bare::Both;
+use request_operands::bare::read_both;
 
 // Where the flag of the lower end stands in an answer, and where that of the upper end.
 const LOWER_EXACT_AT: usize = BARE;

@@ -6,14 +6,17 @@ use Rattle.meaning.specs.Points.{Unary, neg}
 use Rattle.meaning.specs.Results.{Operation}
 use Rattle.meaning.specs.Statement.{DecPair, Bare₁, Bare₂, Decorated₁, Decorated₂}
 use Rattle.meaning.specs.Exactness.{Exact₁, Exact₂}
+use Rattle.meaning.specs.Comparisons.{Comparison, BareComparison, DecComparison}
 use Rattle.meaning.proofs.ExactLaws.{exact₁-once, exact₂-once}
 use Rattle.meaning.proofs.Unique.{bare₁-once, bare₂-once}
 use Rattle.uniqueness.proofs.DecoratedLaws.{decorated₁-once, decorated₂-once}
-use Rattle.interval.specs.IntervalMeaning.{outcome}
+use Rattle.comparison_laws.proofs.OneComparison.{bareComparison-once, decComparison-once}
+use Rattle.interval.specs.IntervalMeaning.{outcome, boolOutcome}
 use Rattle.dec_interval.specs.DecIntervalMeaning.{decOutcome}
 use Rattle.interval.specs.declared.answers.Answer.{Answer}
+use Rattle.interval.specs.declared.answers.BoolAnswer.{BoolAnswer}
 use Rattle.dec_interval.specs.declared.answers.DecAnswer.{DecAnswer}
-use Rattle.interval.proofs.Codes.{answer-known}
+use Rattle.interval.proofs.Codes.{answer-known, boolAnswer-known}
 use Rattle.dec_interval.proofs.Codes.{decAnswer-known}
 use Rattle.judged.specs.ExactAnswers.{exactOutcome}
 use Rattle.judged.specs.declared.ExactAnswer.{ExactAnswer}
@@ -37,3 +40,9 @@ module _ (F : Format) where
 
   pub two-exact-once : (op : Operation) (x y : Pair) (r s : ExactAnswer) → Exact₂ F op x y (exactOutcome r) → Exact₂ F op x y (exactOutcome s) → r ≡ s
   two-exact-once op x y r s a b = exactAnswer-known (exact₂-once F op x y a b)
+
+  pub compare-once : (c : Comparison) (x y : Pair) (r s : BoolAnswer) → BareComparison F c x y (boolOutcome r) → BareComparison F c x y (boolOutcome s) → r ≡ s
+  compare-once c x y r s a b = boolAnswer-known (bareComparison-once F c x y a b)
+
+  pub compare-dec-once : (c : Comparison) (x y : DecPair) (r s : BoolAnswer) → DecComparison F c x y (boolOutcome r) → DecComparison F c x y (boolOutcome s) → r ≡ s
+  compare-dec-once c x y r s a b = boolAnswer-known (decComparison-once F c x y a b)

@@ -1,13 +1,16 @@
-// Any operation by name on any values: operands are judged first, the first before the second. It stands on the operations by
-// name on operands that were judged (`operations`).
+// Any operation or comparison by name on any values: operands are judged first, the first before the second. It stands on those by
+// name on operands that were judged (`operations`, `exact_operations`, `boolean`).
 ghost use Rattle.patterns.specs.Format.{binary64};
 ghost use Rattle.meaning.specs.Statement.{Bare₁, Bare₂, Decorated₁, Decorated₂};
 ghost use Rattle.meaning.specs.Points.{neg};
 ghost use Rattle.meaning.specs.Exactness.{Exact₁, Exact₂};
-ghost use Rattle.interval.specs.IntervalMeaning.{pairOf, outcome};
+ghost use Rattle.meaning.specs.Comparisons.{BareComparison, DecComparison};
+ghost use Rattle.interval.specs.IntervalMeaning.{pairOf, outcome, boolOutcome};
 ghost use Rattle.dec_interval.specs.DecIntervalMeaning.{decPairOf, decOutcome};
-ghost use Rattle.operation_names.specs.Names.{unaryOf, binaryOf, arithmeticOf};
+ghost use Rattle.operation_names.specs.Names.{unaryOf, binaryOf, arithmeticOf, comparisonOf};
 ghost use Rattle.judged.specs.ExactAnswers.{exactOutcome};
+use boolean::compares;
+use boolean::compares_dec;
 use dec_interval::DecAnswer;
 use dec_interval::DecInterval;
 use decorations::judge_dec;
@@ -15,11 +18,13 @@ use exact_operations::ExactInterval;
 use exact_operations::combine_exact;
 use exact_operations::negate_exact;
 use interval::Answer;
+use interval::BoolAnswer;
 use interval::Interval;
 use interval::Verdict;
 use interval::judge;
 use operation_names::Arithmetic;
 use operation_names::Binary;
+use operation_names::Comparison;
 use operation_names::Unary;
 use operation_steps::judge_two;
 use operation_steps::judge_two_dec;
@@ -71,6 +76,15 @@ pub fn two_exact(o: Arithmetic, x: Interval, y: Interval) -> ExactAnswer
     }
 }
 
+pub fn compare(c: Comparison, x: Interval, y: Interval) -> BoolAnswer
+    ensures { λ r. ⌜ BareComparison binary64 (comparisonOf c) (pairOf x) (pairOf y) (boolOutcome r) ⌝ }
+{
+    match judge_two(x, y) {
+        Verdict::Sound => BoolAnswer::Given(compares(c, x.ends, y.ends)),
+        Verdict::Refused(refusal) => BoolAnswer::Refused(refusal),
+    }
+}
+
 pub fn one_dec(f: Unary, x: DecInterval) -> DecAnswer
     ensures { λ r. ⌜ Decorated₁ binary64 (unaryOf f) (decPairOf x) (decOutcome r) ⌝ }
 {
@@ -87,5 +101,14 @@ pub fn two_dec(o: Binary, x: DecInterval, y: DecInterval) -> DecAnswer
     match judge_two_dec(x, y) {
         Verdict::Sound => DecAnswer::Given(combine_dec(o, x, y)),
         Verdict::Refused(refusal) => DecAnswer::Refused(refusal),
+    }
+}
+
+pub fn compare_dec(c: Comparison, x: DecInterval, y: DecInterval) -> BoolAnswer
+    ensures { λ r. ⌜ DecComparison binary64 (comparisonOf c) (decPairOf x) (decPairOf y) (boolOutcome r) ⌝ }
+{
+    match judge_two_dec(x, y) {
+        Verdict::Sound => BoolAnswer::Given(compares_dec(c, x, y)),
+        Verdict::Refused(refusal) => BoolAnswer::Refused(refusal),
     }
 }

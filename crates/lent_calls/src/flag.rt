@@ -1,6 +1,6 @@
 // A truth value as a byte.
 ghost use mathlib.Core.Path.{_≡_};
-ghost use Rattle.meaning.specs.ExactRequests.{flagByte};
+ghost use Rattle.meaning.specs.Requests.{flagByte};
 
 // 1 for yes, and 0 for no.
 pub fn flag_byte(yes: bool) -> u8

@@ -1,6 +1,5 @@
 -- The bare request that reports which ends are exact: "the bare request for operations 1 to 5 with 18 bytes out: the answer's 16
 -- bytes, then 1 or 0 for the lower and for the upper end".
-use mathlib.Core.Bool.{Bool, true, false}
 use mathlib.Core.List.{List, [], _∷_, _++_}
 use Prim.Native.Nat.{ℕ, _≤_}
 use lib.ListN.{getD}
@@ -11,19 +10,15 @@ use Rattle.meaning.specs.Statement.{Outcome, Answered₁, Answered₂}
 use Rattle.meaning.specs.Exactness.{ExactPair, ExactHullOf}
 use Rattle.meaning.specs.Calls.{Test, Called}
 use Rattle.meaning.specs.Bytes.{bigEndian, writePair, Written, JudgedBytes}
-use Rattle.meaning.specs.Requests.{Asked, unary, binary, overlap, bareSize, setRead, testsBy, Requested}
+use Rattle.meaning.specs.Requests.{Asked, unary, binary, overlap, comparison, flagByte, bareSize, setRead, testsBy, Requested}
 
 abbrev pub exactSize : ℕ
 exactSize = 18
 
-abbrev pub flagByte : Bool → ℕ
-flagByte true = 1
-flagByte false = 0
-
 abbrev pub writeExact : ExactPair → List ℕ
 writeExact z = writePair bigEndian (z .pair) ++ flagByte (z .lowerExact) ∷ flagByte (z .upperExact) ∷ []
 
--- The outcome of an operation on the bytes of its operands. Overlap has no ends, and no number from 1 to 5.
+-- The outcome of an operation on the bytes of its operands. What answers no interval has no ends, and no number from 1 to 5.
 abbrev pub ExactOutcome : Format → Asked → (first second : List ℕ) → Outcome (List ℕ) → Type 0
 ExactOutcome F (unary op) first second o =
     Answered₁ (JudgedBytes F bigEndian) (λ x out. Written writeExact (ExactHullOf F (Result₁ op (setRead F x))) out) first o
@@ -31,6 +26,7 @@ ExactOutcome F (binary op) first second o =
     Answered₂ (JudgedBytes F bigEndian)
     (λ x y out. Written writeExact (ExactHullOf F (Result₂ op (setRead F x) (setRead F y))) out) first second o
 ExactOutcome F overlap first second o = ⊥
+ExactOutcome F (comparison c) first second o = ⊥
 
 -- "3 for an operation other than 1 to 5"
 abbrev pub arithmetic : Test (List ℕ)

@@ -11,6 +11,7 @@ pub mod Decorations
 pub mod Statement
 pub mod Exactness
 pub mod Overlap
+pub mod Comparisons
 pub mod Bytes
 pub mod Calls
 pub mod Requests

@@ -1,27 +1,31 @@
 -- Requests and codecs on bytes, by document 01: "A request is one operation number and two operands, big endian".
+use mathlib.Core.Bool.{Bool, true, false}
 use mathlib.Core.Path.{_≡_}
 use mathlib.Core.List.{List, [], _∷_}
 use Prim.Native.Nat.{ℕ, zero, suc, _+_, _-_}
 use lib.ListN.{length, take, drop, getD}
+use Rattle.truth.specs.Answers.{Answers}
 use Rattle.refusals.specs.declared.Refusal.{Refusal}
 use Rattle.patterns.specs.Format.{Format}
 use Rattle.meaning.specs.Sets.{Set}
 use Rattle.meaning.specs.Pairs.{setOf}
 use Rattle.meaning.specs.Points.{Unary, neg, abs, ceil, floor, round, roundTiesEven, sign, trunc, add, sub, mul, div, max, min}
 use Rattle.meaning.specs.Results.{Operation, point, convexHull, intersection, Result₁, Result₂}
-use Rattle.meaning.specs.Statement.{DecPair, Outcome, Answered₁, Answered₂, HullOf, RightDec₁, RightDec₂}
+use Rattle.meaning.specs.Statement.{DecPair, Outcome, Verdict, Answered₁, Answered₂, HullOf, RightDec₁, RightDec₂}
 use Rattle.meaning.specs.Calls.{Test, Called}
 use Rattle.meaning.specs.Overlap.{OverlapNumber, DecoratedOverlap}
+use Rattle.meaning.specs.Comparisons.{Comparison, equal, subset, interior, disjoint, less, strictLess, precedes, strictPrecedes, PairsCompare}
 use Rattle.meaning.specs.Bytes.{ByteOrder, bigEndian, readPair, writePair, writeDecorated, Written, JudgedBytes, JudgedDecBytes, ReadDecorated}
 
--- What a request asks for: an operation of one operand, of two, or overlap.
+-- What a request asks for: an operation of one operand, of two, overlap, or a comparison.
 pub data Asked : Type 0 where
   unary : Unary → Asked
   binary : Operation → Asked
   overlap : Asked
+  comparison : Comparison → Asked
 
 -- "Numbers: 1 neg, 2 add, 3 sub, 4 mul, 5 div, 6 convex_hull, 7 intersection, 8 max, 9 min, 10 abs, 11 ceil, 12 floor,
--- 13 round, 14 round_ties_even, 15 sign, 16 trunc, 17 overlap."
+-- 13 round, 14 round_ties_even, 15 sign, 16 trunc, 17 overlap." Ticket 3: "Add operation numbers 18 to 25", in the order of its list.
 abbrev pub operationNumber : Asked → ℕ
 operationNumber (unary neg) = 1
 operationNumber (binary (point add)) = 2
@@ -40,6 +44,14 @@ operationNumber (unary roundTiesEven) = 14
 operationNumber (unary sign) = 15
 operationNumber (unary trunc) = 16
 operationNumber overlap = 17
+operationNumber (comparison equal) = 18
+operationNumber (comparison subset) = 19
+operationNumber (comparison interior) = 20
+operationNumber (comparison disjoint) = 21
+operationNumber (comparison less) = 22
+operationNumber (comparison strictLess) = 23
+operationNumber (comparison precedes) = 24
+operationNumber (comparison strictPrecedes) = 25
 
 -- count zero bytes.
 abbrev pub zeros : ℕ → List ℕ
@@ -57,6 +69,32 @@ decoratedSize = 17
 abbrev pub writeState : (size : ℕ) → ℕ → List ℕ
 writeState size n = n ∷ zeros (size - 1)
 
+-- A truth value as a byte: 1 for yes, and 0 for no.
+abbrev pub flagByte : Bool → ℕ
+flagByte true = 1
+flagByte false = 0
+
+-- A comparison: "the answer's first byte is 0 or 1, then zeros".
+abbrev pub writeTruth : (size : ℕ) → Bool → List ℕ
+writeTruth size t = writeState size (flagByte t)
+
+-- A form in which intervals come: how many bytes they have, and what is found of them.
+pub record Form : Type 1 where
+  pub size : ℕ
+  pub Judged : List ℕ → Verdict → Type 0
+
+abbrev pub bareForm : Format → Form
+bareForm F = record { size = bareSize; Judged = JudgedBytes F bigEndian }
+
+abbrev pub decoratedForm : Format → Form
+decoratedForm F = record { size = decoratedSize; Judged = JudgedDecBytes F bigEndian }
+
+-- The outcome of a comparison in either form, by the pairs that its operands' bytes are read as.
+abbrev pub ComparisonOutcome : Format → Form → Comparison → (first second : List ℕ) → Outcome (List ℕ) → Type 0
+ComparisonOutcome F form c first second o =
+    Answered₂ (form .Judged)
+    (λ x y out. Written (writeTruth (form .size)) (Answers (PairsCompare F c (readPair bigEndian x) (readPair bigEndian y))) out) first second o
+
 -- The pair that bytes are read as, and the set that it stands for.
 abbrev pub setRead : Format → List ℕ → Set
 setRead F bs = setOf F (readPair bigEndian bs)
@@ -71,6 +109,7 @@ BareOutcome F (binary op) first second o =
 BareOutcome F overlap first second o =
     Answered₂ (JudgedBytes F bigEndian)
     (λ x y out. Written (writeState bareSize) (OverlapNumber (setRead F x) (setRead F y)) out) first second o
+BareOutcome F (comparison c) first second o = ComparisonOutcome F (bareForm F) c first second o
 
 -- A right answer to decorated operands as their bytes are read.
 pub record Read₁ (F : Format) (Right : DecPair → List ℕ → Type 0) (first out : List ℕ) : Type 0 where
@@ -93,6 +132,7 @@ DecoratedOutcome F (binary op) first second o =
     Answered₂ (JudgedDecBytes F bigEndian) (Read₂ F (λ x y. Written (writeDecorated bigEndian) (RightDec₂ F op x y))) first second o
 DecoratedOutcome F overlap first second o =
     Answered₂ (JudgedDecBytes F bigEndian) (Read₂ F (λ x y. Written (writeState decoratedSize) (DecoratedOverlap F x y))) first second o
+DecoratedOutcome F (comparison c) first second o = ComparisonOutcome F (decoratedForm F) c first second o
 
 -- The operation number, and the two operands of a given size behind it.
 pub record Asks (input : List ℕ) (q : Asked) : Type 0 where
@@ -121,7 +161,7 @@ inputOf size = record { Holds = λ input before. length input ≡ size; number =
 abbrev pub outputOf : (size : ℕ) → Test (List ℕ)
 outputOf size = record { Holds = λ input before. length before ≡ size; number = 2 }
 
--- 3: "the operation number isn't 1 to 17".
+-- 3: "Refusal 3 is now for numbers other than 1 to 25."
 abbrev pub numbered : Test (List ℕ)
 numbered = record { Holds = λ input before. Known input; number = 3 }
 

@@ -4,12 +4,13 @@ use Prim.Native.Nat.{ℕ, _≤_}
 use native.Mathlib.Omega.{arith}
 use Rattle.meaning.specs.Points.{neg}
 use Rattle.meaning.specs.Requests as requests
-use Rattle.meaning.specs.Requests.{unary, binary, overlap, operationNumber}
-use Rattle.operation_names.specs.Names.{unaryOf, binaryOf, arithmeticOf}
-use Rattle.operation_names.specs.Numbers.{AskedBy, asksOne, asksTwo, asksOverlap, asksNothing, AskedExactBy, asksNeg, asksArithmetic, asksNoArithmetic}
+use Rattle.meaning.specs.Requests.{unary, binary, overlap, comparison, operationNumber}
+use Rattle.operation_names.specs.Names.{unaryOf, binaryOf, arithmeticOf, comparisonOf}
+use Rattle.operation_names.specs.Numbers.{AskedBy, asksOne, asksTwo, asksOverlap, asksComparison, asksNothing, AskedExactBy, asksNeg, asksArithmetic, asksNoArithmetic}
 use Rattle.operation_names.specs.declared.names.Unary.{Unary}
 use Rattle.operation_names.specs.declared.names.Binary.{Binary}
 use Rattle.operation_names.specs.declared.names.Arithmetic.{Arithmetic}
+use Rattle.operation_names.specs.declared.names.Comparison.{Comparison}
 use Rattle.operation_names.specs.declared.numbers.Asked.{Asked}
 use Rattle.operation_names.specs.declared.numbers.AskedExact.{AskedExact}
 
@@ -31,6 +32,12 @@ module _ {n : ℕ} {r : Asked} (h : AskedBy n r) where
     where
       go : AskedBy n Asked.Overlap → n ≡ operationNumber overlap
       go (asksOverlap is) = is
+
+  pub comparison-asked : {c : Comparison} → r ≡ Asked.Comparison c → n ≡ operationNumber (comparison (comparisonOf c))
+  comparison-asked {c} e = go (subst (AskedBy n) e h)
+    where
+      go : AskedBy n (Asked.Comparison c) → n ≡ operationNumber (comparison (comparisonOf c))
+      go (asksComparison is) = is
 
   pub nothing-asked : r ≡ Asked.Nothing → (q : requests.Asked) → n ≡ operationNumber q → ⊥
   nothing-asked e = go (subst (AskedBy n) e h)

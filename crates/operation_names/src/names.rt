@@ -1,4 +1,4 @@
-// The names of the operations whose answer is an interval.
+// The names of the operations whose answer is an interval, and of the comparisons.
 use wholes::Function;
 
 // The operations of one operand. Those whose results are whole numbers have names of their own.
@@ -26,4 +26,16 @@ pub enum Arithmetic {
     Sub,
     Mul,
     Div,
+}
+
+// The comparisons of two operands, whose answer is yes or no.
+pub enum Comparison {
+    Equal,
+    Subset,
+    Interior,
+    Disjoint,
+    Less,
+    StrictLess,
+    Precedes,
+    StrictPrecedes,
 }

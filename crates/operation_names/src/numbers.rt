@@ -1,10 +1,11 @@
 // The operation numbers of document 01, and the operations that they stand for.
 ghost use mathlib.Core.Path.{_≡_};
-ghost use Rattle.meaning.specs.Requests.{unary, binary, operationNumber};
-ghost use Rattle.operation_names.specs.Names.{unaryOf, binaryOf, arithmeticOf};
-ghost use Rattle.operation_names.specs.Numbers.{OneOperand, TwoOperands, Rounding, AskedBy, AskedExactBy};
+ghost use Rattle.meaning.specs.Requests.{unary, binary, comparison, operationNumber};
+ghost use Rattle.operation_names.specs.Names.{unaryOf, binaryOf, arithmeticOf, comparisonOf};
+ghost use Rattle.operation_names.specs.Numbers.{OneOperand, TwoOperands, Comparing, Rounding, AskedBy, AskedExactBy};
 use crate::names::Arithmetic;
 use crate::names::Binary;
+use crate::names::Comparison;
 use crate::names::Unary;
 use wholes::Function;
 
@@ -13,6 +14,7 @@ pub enum Asked {
     One(Unary),
     Two(Binary),
     Overlap,
+    Comparison(Comparison),
     // The number is none of an operation.
     Nothing,
 }
@@ -59,10 +61,26 @@ const TRUNC: u8 = 16;
 
 const OVERLAP: u8 = 17;
 
+const EQUAL: u8 = 18;
+
+const SUBSET: u8 = 19;
+
+const INTERIOR: u8 = 20;
+
+const DISJOINT: u8 = 21;
+
+const LESS: u8 = 22;
+
+const STRICT_LESS: u8 = 23;
+
+const PRECEDES: u8 = 24;
+
+const STRICT_PRECEDES: u8 = 25;
+
 // Numbers of no operation: the one before the first, and all from the one behind the last to the greatest.
 const BEFORE: u8 = 0;
 
-const BEHIND: u8 = 18;
+const BEHIND: u8 = 26;
 
 const GREATEST: u8 = 255;
 
@@ -101,8 +119,24 @@ fn binary_numbered(number: u8) -> Binary
     }
 }
 
-// The operation with a number. Numbers from ABS to TRUNC and NEG are of one operand, those from ADD to MIN of two, and so is
-// OVERLAP, whose answer is a state. All others are refused.
+fn comparison_numbered(number: u8) -> Comparison
+    requires { ⌜ Comparing number ⌝ }
+    ensures { λ r. ⌜ number ≡ operationNumber (comparison (comparisonOf r)) ⌝ }
+{
+    match number {
+        EQUAL => Comparison::Equal,
+        SUBSET => Comparison::Subset,
+        INTERIOR => Comparison::Interior,
+        DISJOINT => Comparison::Disjoint,
+        LESS => Comparison::Less,
+        STRICT_LESS => Comparison::StrictLess,
+        PRECEDES => Comparison::Precedes,
+        _ => Comparison::StrictPrecedes,
+    }
+}
+
+// The operation with a number. Numbers from ABS to TRUNC and NEG are of one operand, those from ADD to MIN of two, and so are
+// OVERLAP, whose answer is a state, and those from EQUAL to STRICT_PRECEDES, whose answer is yes or no. All others are refused.
 pub fn numbered(number: u8) -> Asked
     ensures { λ r. ⌜ AskedBy number r ⌝ }
 {
@@ -110,6 +144,7 @@ pub fn numbered(number: u8) -> Asked
         NEG | ABS..=TRUNC => Asked::One(unary_numbered(number)),
         ADD..=MIN => Asked::Two(binary_numbered(number)),
         OVERLAP => Asked::Overlap,
+        EQUAL..=STRICT_PRECEDES => Asked::Comparison(comparison_numbered(number)),
         BEFORE | BEHIND..=GREATEST => Asked::Nothing,
     }
 }

@@ -1,13 +1,15 @@
 -- The bytes of a request's operands have one outcome for each operation.
-use mathlib.Core.Path.{subst}
+use mathlib.Core.Path.{_≡_, subst}
 use mathlib.Core.List.{List}
 use Prim.Native.Nat.{ℕ}
+use Rattle.truth.proofs.AnswerLaws.{answers-once}
 use Rattle.patterns.specs.Format.{Format}
 use Rattle.meaning.specs.Pairs.{setOf}
 use Rattle.meaning.specs.Results.{Result₁, Result₂}
 use Rattle.meaning.specs.Statement.{Outcome, DecPair}
+use Rattle.meaning.specs.Comparisons.{Comparison, PairsCompare}
 use Rattle.meaning.specs.Bytes.{bigEndian, readPair, ReadDecorated}
-use Rattle.meaning.specs.Requests.{Asked, unary, binary, overlap, BareOutcome, Read₁, Read₂, DecoratedOutcome, Requested, firstOperand, secondOperand}
+use Rattle.meaning.specs.Requests.{Asked, unary, binary, overlap, comparison, Form, bareForm, decoratedForm, ComparisonOutcome, BareOutcome, Read₁, Read₂, DecoratedOutcome, Requested, firstOperand, secondOperand}
 use Rattle.meaning.specs.ExactRequests.{ExactOutcome}
 use Rattle.meaning.proofs.ExactLaws.{exact-once}
 use Rattle.meaning.proofs.Unique.{One, one-answer₁, one-answer₂, one-sound-answer, written-once, hull-once}
@@ -20,6 +22,12 @@ use Rattle.meaning.proofs.OperationNumbers.{asks-once}
 use Rattle.request_laws.proofs.SoundLaws.{sound-valid, sound-ends}
 
 module _ (F : Format) where
+  -- A comparison, in either form.
+  comparison-outcome-once : (c : Comparison) (form : Form) → ((x : List ℕ) → One (form .Judged x)) → {first second : List ℕ} {o p : Outcome (List ℕ)}
+      → ComparisonOutcome F form c first second o → ComparisonOutcome F form c first second p → o ≡ p
+  comparison-outcome-once c form judged {first} {second} =
+      one-answer₂ judged (written-once (answers-once (PairsCompare F c (readPair bigEndian first) (readPair bigEndian second))))
+
   pub bare-outcome-once : (q : Asked) (first second : List ℕ) → One (BareOutcome F q first second)
   bare-outcome-once (unary op) first second o p =
       one-answer₁ (judged-bytes-once F bigEndian first)
@@ -29,6 +37,7 @@ module _ (F : Format) where
       (written-once (hull-once F (Result₂ op (setOf F (readPair bigEndian first)) (setOf F (readPair bigEndian second)))))
   bare-outcome-once overlap first second o p =
       one-sound-answer (judged-bytes-once F bigEndian) (λ h k. written-once (λ m n. number-unique (sound-valid F h) (sound-valid F k)))
+  bare-outcome-once (comparison c) first second o p = comparison-outcome-once c (bareForm F) (judged-bytes-once F bigEndian)
 
   pub exact-outcome-once : (q : Asked) (first second : List ℕ) → One (ExactOutcome F q first second)
   exact-outcome-once (unary op) first second o p =
@@ -38,6 +47,7 @@ module _ (F : Format) where
       one-answer₂ (judged-bytes-once F bigEndian)
       (written-once (exact-once F (Result₂ op (setOf F (readPair bigEndian first)) (setOf F (readPair bigEndian second)))))
   exact-outcome-once overlap first second o p = λ h k. absurd h
+  exact-outcome-once (comparison c) first second o p = λ h k. absurd h
 
   read₁-once : {Right : DecPair → List ℕ → Type 0} {first : List ℕ} → ((x : DecPair) → One (Right x)) → One (Read₁ F Right first)
   read₁-once {Right} {first} one z w h k =
@@ -65,6 +75,7 @@ module _ (F : Format) where
       one-sound-answer (judged-decBytes-once F bigEndian)
       (λ h k. read₂-once
       (λ x y readX readY. written-once (λ m n. decorated-number-unique F x y (sound-ends F h readX) (sound-ends F k readY))))
+  decorated-outcome-once (comparison c) first second o p = comparison-outcome-once c (decoratedForm F) (judged-decBytes-once F bigEndian)
 
 -- A request asks for one operation, and so has one outcome.
 pub requested-once : {size : ℕ} {Outcomes : Asked → (first second : List ℕ) → Outcome (List ℕ) → Type 0} {input : List ℕ}

@@ -8,7 +8,7 @@ use Rattle.refusals.specs.declared.Refusal.{Refusal}
 use Rattle.patterns.specs.Format.{Format}
 use Rattle.meaning.specs.Statement.{Outcome, refused, given, noRefusal, Verdict, wrong, Answered₁, first₁, Answered₂, first₂, second₂}
 use Rattle.meaning.specs.Bytes.{ByteOrder, bigEndian, JudgedBytes, bytesFive, JudgedDecBytes, bytesFour, decBytesFive, decBytesSix}
-use Rattle.meaning.specs.Requests.{Asked, unary, binary, overlap, BareOutcome, DecoratedOutcome, BareRequest, DecoratedRequest, BareCodec, DecoratedCodec}
+use Rattle.meaning.specs.Requests.{Asked, unary, binary, overlap, comparison, BareOutcome, DecoratedOutcome, BareRequest, DecoratedRequest, BareCodec, DecoratedCodec}
 use Rattle.meaning.specs.ExactRequests.{ExactOutcome, ExactRequest}
 use Rattle.meaning.specs.Calls.{Left, leftBy, Test, failed, passed, Chain, Called}
 use Rattle.request_laws.specs.Calls.{Statement, Packed, Small}
@@ -58,16 +58,19 @@ module _ (F : Format) where
   bare-small (unary op) first second r = small₁ (bytes-small bigEndian) first
   bare-small (binary op) first second r = small₂ (bytes-small bigEndian) first second
   bare-small overlap first second r = small₂ (bytes-small bigEndian) first second
+  bare-small (comparison c) first second r = small₂ (bytes-small bigEndian) first second
 
   exact-small : (q : Asked) (first second : List ℕ) (r : Refusal) → ExactOutcome F q first second (refused r) → Small r
   exact-small (unary op) first second r = small₁ (bytes-small bigEndian) first
   exact-small (binary op) first second r = small₂ (bytes-small bigEndian) first second
   exact-small overlap first second r = λ h. absurd h
+  exact-small (comparison c) first second r = λ h. absurd h
 
   decorated-small : (q : Asked) (first second : List ℕ) (r : Refusal) → DecoratedOutcome F q first second (refused r) → Small r
   decorated-small (unary op) first second r = small₁ (decBytes-small bigEndian) first
   decorated-small (binary op) first second r = small₂ (decBytes-small bigEndian) first second
   decorated-small overlap first second r = small₂ (decBytes-small bigEndian) first second
+  decorated-small (comparison c) first second r = small₂ (decBytes-small bigEndian) first second
 
   pub bare-request-small : {input before after : List ℕ} {r : Refusal} → BareRequest F input before r after → Small r
   bare-request-small = called-small (lit≤ tt, (lit≤ tt, (lit≤ tt, tt))) (λ r h. bare-small (h .asked) _ _ r (h .outcome))

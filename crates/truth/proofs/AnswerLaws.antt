@@ -1,6 +1,6 @@
 -- Truth values that answer a question: made by a test, and read by a branch.
-use mathlib.Core.Bool.{Bool, true, false, not, _&&_}
-use mathlib.Core.Logic.{_⊎_, inr, ⊎-elim}
+use mathlib.Core.Bool.{Bool, true, false, not, _&&_, _||_}
+use mathlib.Core.Logic.{_⊎_, inl, inr, ⊎-elim}
 use mathlib.Core.Path.{_≡_, refl, sym, subst}
 use Prim.Native.Nat.{ℕ, _<_, _≤_}
 use borrow.Author.Tests.{ltb-true, ltb-false, leb-true, leb-false, eqb-true, eqb-false}
@@ -46,6 +46,10 @@ no-so f (denied n) e = denied (λ q. n (f q))
 pub or-else : {P Q : Type 0} {t : Bool} → (P → ⊥) → Answers Q t → Answers (P ⊎ Q) t
 or-else n = answers-iff inr (⊎-elim (λ p. absurd (n p)) (λ q. q))
 
+-- The second part of an `and` whose first holds settles the whole.
+pub and-then : {P Q : Type 0} {t : Bool} → P → Answers Q t → Answers (P × Q) t
+and-then p = answers-iff (λ q. (p, q)) (λ s. s .1)
+
 -- The other truth value answers the denial.
 pub answers-not : {P : Type 0} {t : Bool} → Answers P t → Answers (P → ⊥) (not t)
 answers-not (affirmed p) = denied (λ n. n p)
@@ -58,7 +62,7 @@ answers-once P b c (affirmed p) (denied n) = absurd (n p)
 answers-once P b c (denied n) (affirmed p) = absurd (n p)
 answers-once P b c (denied n) (denied m) = refl
 
--- A truth value answers whether it is true, and two of them whether both questions are answered with yes.
+-- A truth value answers whether it is true, and two of them whether both questions, or either, are answered with yes.
 pub answers-itself : (t : Bool) → Answers (t ≡ true) t
 answers-itself true = affirmed refl
 answers-itself false = denied (λ e. subst T (sym e) tt)
@@ -67,3 +71,8 @@ pub answers-and : {P Q : Type 0} {t u : Bool} → Answers P t → Answers Q u �
 answers-and (affirmed p) (affirmed q) = affirmed (p, q)
 answers-and (affirmed p) (denied n) = denied (λ h. n (h .1))
 answers-and (denied n) q = denied (λ h. n (h .0))
+
+pub answers-or : {P Q : Type 0} {t u : Bool} → Answers P t → Answers Q u → Answers (P ⊎ Q) (t || u)
+answers-or (affirmed p) q = affirmed (inl p)
+answers-or (denied n) (affirmed q) = affirmed (inr q)
+answers-or (denied n) (denied m) = denied (⊎-elim n m)

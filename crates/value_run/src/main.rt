@@ -5,13 +5,13 @@
 //
 //  Numbers    | Functions
 // ------------+---------------------------------------------------------------------------------------
-//    1 to  17 | decorated operations, under document 01's numbers
-//   33 to  49 | bare operations, under document 01's numbers and 32
+//    1 to  25 | decorated operations, under document 01's numbers
+//   33 to  57 | bare operations, under document 01's numbers and 32
 //   64 to  75 | functions that take a bare interval (crates/value_functions/src/bare.rt)
 //   96 to 108 | functions that take a decorated interval (crates/value_functions/src/decorated.rt)
 //  128 to 135 | functions that take bytes, and constants (crates/value_functions/src/from_bytes.rt)
-//  161 to 177 | decorated operations by name, under document 01's numbers and 160
-//  193 to 209 | bare operations by name, under document 01's numbers and 192
+//  161 to 185 | decorated operations by name, under document 01's numbers and 160
+//  193 to 217 | bare operations by name, under document 01's numbers and 192
 //  225 to 229 | arithmetic operations that report exactness, under document 01's numbers and 224
 //
 // A reply is nineteen bytes: number, place and answer (crates/value_records/src/replies.rt). Number 3 says that no function has the

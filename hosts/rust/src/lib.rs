@@ -19,6 +19,18 @@
 //! assert_eq!(answer[16], 16);
 //! # Ok::<(), muenglavot::Refusal>(())
 //! ```
+//!
+//! Whether a record lies inside a drawing's window is a comparison. Its answer is 1 for yes or 0 for no, in the first byte.
+//!
+//! ```
+//! // 19 is subset: [1, 2] in the window [1, 4].
+//! let mut request = vec![19];
+//! request.extend([1.0f64, 2.0, 1.0, 4.0].map(f64::to_be_bytes).concat());
+//! let mut answer = [0; muenglavot::BARE];
+//! muenglavot::request_bare(&request, &mut answer)?;
+//! assert_eq!(answer[0], 1);
+//! # Ok::<(), muenglavot::Refusal>(())
+//! ```
 
 use std::fmt;
 
@@ -72,7 +84,7 @@ fn call(f: Call, input: &[u8], output: &mut [u8]) -> Result<(), Refusal> {
     }
 }
 
-/// One operation on bare intervals: 33 bytes in, 16 out. A refusal leaves `output` as it was.
+/// One operation on bare intervals, or a comparison of them: 33 bytes in, 16 out. A refusal leaves `output` as it was.
 pub fn request_bare(input: &[u8], output: &mut [u8]) -> Result<(), Refusal> {
     call(muenglavot_request_bare, input, output)
 }
@@ -84,7 +96,7 @@ pub fn request_bare_exact(input: &[u8], output: &mut [u8]) -> Result<(), Refusal
     call(muenglavot_request_bare_exact, input, output)
 }
 
-/// One operation on decorated intervals: 35 bytes in, 17 out. A refusal leaves `output` as it was.
+/// One operation on decorated intervals, or a comparison of them: 35 bytes in, 17 out. A refusal leaves `output` as it was.
 pub fn request_decorated(input: &[u8], output: &mut [u8]) -> Result<(), Refusal> {
     call(muenglavot_request_decorated, input, output)
 }

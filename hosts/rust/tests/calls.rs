@@ -17,6 +17,9 @@ const SUB: u8 = 3;
 const MUL: u8 = 4;
 const DIV: u8 = 5;
 const OVERLAP: u8 = 17;
+const EQUAL: u8 = 18;
+const STRICT_PRECEDES: u8 = 25;
+const COMPARISONS: usize = (STRICT_PRECEDES - EQUAL + 1) as usize;
 
 fn interval(lower: f64, upper: f64) -> Vec<u8> {
     [lower.to_be_bytes(), upper.to_be_bytes()].concat()
@@ -103,6 +106,60 @@ fn bare_overlap_answers_a_state_and_zero_bytes() {
     let mut meets = [0; BARE];
     meets[0] = 4;
     expect("bare overlap", request_bare, &overlap, BARE, Ok(&meets));
+}
+
+/// Makes the eight comparisons of two intervals, bare and with Trv, and holds them to the answers, in the order of their
+/// numbers.
+fn expect_compared(what: &str, first: (f64, f64), second: (f64, f64), yes: [u8; COMPARISONS]) {
+    let [x, y] = [first, second].map(|(lower, upper)| decorated(lower, upper, TRV));
+    for (operation, yes) in (EQUAL..=STRICT_PRECEDES).zip(yes) {
+        let mut answer = [0; DECORATED];
+        answer[0] = yes;
+        expect(what, request_bare, &request(operation, &x[..BARE], &y[..BARE]), BARE, Ok(&answer[..BARE]));
+        expect(what, request_decorated, &request(operation, &x, &y), DECORATED, Ok(&answer));
+    }
+}
+
+#[test]
+fn comparisons_answer_one_or_zero_and_zero_bytes() {
+    let empty = (INF, -INF);
+    expect_compared("with itself", (1.0, 2.0), (1.0, 2.0), [1, 1, 0, 0, 1, 0, 0, 0]);
+    expect_compared("apart", (1.0, 2.0), (3.0, 4.0), [0, 0, 0, 1, 1, 1, 1, 1]);
+    expect_compared("touching", (1.0, 2.0), (2.0, 3.0), [0, 0, 0, 0, 1, 1, 1, 0]);
+    expect_compared("inside", (1.25, 1.5), (1.0, 2.0), [0, 1, 1, 0, 0, 0, 0, 0]);
+    expect_compared("inside with a shared end", (1.0, 1.5), (1.0, 2.0), [0, 1, 0, 0, 1, 0, 0, 0]);
+    expect_compared("around", (1.0, 2.0), (1.25, 1.5), [0; COMPARISONS]);
+    expect_compared("zero alone", (-0.0, 0.0), (-0.0, 0.0), [1, 1, 0, 0, 1, 0, 1, 0]);
+    expect_compared("no bound above", (1.0, INF), (-1.0, INF), [0, 1, 1, 0, 0, 0, 0, 0]);
+    expect_compared("no bounds", (-INF, INF), (-INF, INF), [1, 1, 1, 0, 1, 1, 0, 0]);
+    expect_compared("EMPTY twice", empty, empty, [1; COMPARISONS]);
+    expect_compared("EMPTY first", empty, (1.0, 2.0), [0, 1, 1, 1, 0, 0, 1, 1]);
+    expect_compared("EMPTY second", (1.0, 2.0), empty, [0, 0, 0, 1, 0, 0, 1, 1]);
+}
+
+#[test]
+fn comparisons_of_nai_answer_no() {
+    let (nai, other) = (decorated(NAN, NAN, ILL), decorated(1.0, 2.0, COM));
+    for operation in EQUAL..=STRICT_PRECEDES {
+        for (first, second) in [(&nai, &other), (&other, &nai), (&nai, &nai)] {
+            let asked = request(operation, first, second);
+            expect("NaI", request_decorated, &asked, DECORATED, Ok(&[0; DECORATED]));
+        }
+    }
+}
+
+#[test]
+fn operands_of_comparisons_are_refused_with_their_place() {
+    let (good, disordered) = (interval(1.0, 2.0), interval(2.0, 1.0));
+    let nai = decorated(NAN, NAN, ILL);
+    for operation in EQUAL..=STRICT_PRECEDES {
+        expect("bare, first", request_bare, &request(operation, &disordered, &good), BARE, Err((5, 1)));
+        expect("bare, second", request_bare, &request(operation, &good, &disordered), BARE, Err((5, 2)));
+        for (what, bad, number) in bad_operands() {
+            expect(what, request_decorated, &request(operation, &bad, &nai), DECORATED, Err((number, 1)));
+            expect(what, request_decorated, &request(operation, &nai, &bad), DECORATED, Err((number, 2)));
+        }
+    }
 }
 
 #[test]
@@ -214,7 +271,7 @@ fn exact_request_lengths_are_refused() {
 
 #[test]
 fn operation_numbers_that_are_none_are_refused() {
-    for operation in (0..=255).filter(|n| !(1..=17).contains(n)) {
+    for operation in (0..=255).filter(|n| !(NEG..=STRICT_PRECEDES).contains(n)) {
         let bare = request(operation, &interval(2.0, 1.0), &interval(3.0, 4.0));
         expect("bare operation number", request_bare, &bare, BARE, Err((3, 0)));
         let both = request(operation, &decorated(2.0, 1.0, COM), &decorated(3.0, 4.0, COM));

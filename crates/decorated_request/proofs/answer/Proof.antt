@@ -1,9 +1,9 @@
 -- `answer` meets its contract: what the number asks for is done.
 use borrow.Author.Needs.{needs}
-use Rattle.meaning.specs.Requests.{unary, binary, overlap}
+use Rattle.meaning.specs.Requests.{unary, binary, overlap, comparison}
 use Rattle.meaning.proofs.CalledLaws.{stop}
-use Rattle.operation_names.specs.Names.{unaryOf, binaryOf}
-use Rattle.operation_names.proofs.AskedLaws.{one-asked, two-asked, overlap-asked, nothing-asked}
+use Rattle.operation_names.specs.Names.{unaryOf, binaryOf, comparisonOf}
+use Rattle.operation_names.proofs.AskedLaws.{one-asked, two-asked, overlap-asked, comparison-asked, nothing-asked}
 use Rattle.request_laws.proofs.RequestedLaws.{requested}
 use Rattle.decorated_request.proofs.answer.Statement.{statement}
 use Rattle.decorated_request.proofs.answer.Tie as tie
@@ -26,10 +26,16 @@ returns-3 c =
     requested overlap (overlap-asked (told .before .before .numbered .ensures) (told .enum-told .given .1)) (c .before .before .overlap-state .ensures)
 
 returns-4 : tie.Need-returns-4
-returns-4 c = stop (λ k. nothing-asked (c .before .before .numbered .ensures) (c .enum-told2 .given .1) (k .asked) (k .asks .is))
+returns-4 c =
+    let told = c .before .before .before .before .before in
+    requested (comparison (comparisonOf (told .c .given .0 .0))) (comparison-asked (told .before .before .numbered .ensures) (told .c .given .1))
+    (c .before .before .comparison .ensures)
+
+returns-5 : tie.Need-returns-5
+returns-5 c = stop (λ k. nothing-asked (c .before .before .numbered .ensures) (c .enum-told2 .given .1) (k .asked) (k .asks .is))
 
 pub answer-spec : {M : Type 1} → statement M
 answer-spec =
     tie.close (tie.spec (search needs) (search needs) (search needs) (search needs) (search needs) (search needs)
-    (search needs) (search needs) (search needs) (search needs) returns (search needs) returns-2 (search needs)
-    returns-3 returns-4)
+    (search needs) (search needs) (search needs) (search needs) (search needs) (search needs) returns (search needs)
+    returns-2 (search needs) returns-3 (search needs) returns-4 returns-5)

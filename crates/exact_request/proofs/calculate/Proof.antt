@@ -8,8 +8,8 @@ use Rattle.meaning.specs.ExactRequests.{writeExact}
 use Rattle.operation_names.specs.Names.{arithmeticOf}
 use Rattle.meaning.proofs.CalledLaws.{written, refusing}
 use Rattle.request_laws.proofs.ReadLaws.{found₂, after₂, refused₂}
-use Rattle.bare_request.specs.OperandMeaning.{bothOf}
-use Rattle.bare_request.proofs.SoundOperands.{two-sound, write₂}
+use Rattle.request_operands.specs.OperandMeaning.{bothOf}
+use Rattle.request_operands.proofs.SoundOperands.{two-sound, write₂}
 use Rattle.exact_request.proofs.calculate.Statement.{statement}
 use Rattle.exact_request.proofs.calculate.Tie as tie
 

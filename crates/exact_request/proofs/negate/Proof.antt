@@ -9,7 +9,7 @@ use Rattle.meaning.specs.ExactRequests.{writeExact}
 use Rattle.interval.specs.IntervalMeaning.{outcome}
 use Rattle.meaning.proofs.CalledLaws.{written, refusing}
 use Rattle.request_laws.proofs.ReadLaws.{found₁, after₁, refused₁}
-use Rattle.bare_request.proofs.SoundOperands.{one-sound, write₁}
+use Rattle.request_operands.proofs.SoundOperands.{one-sound, write₁}
 use Rattle.exact_request.proofs.negate.Statement.{statement}
 use Rattle.exact_request.proofs.negate.Tie as tie
 

@@ -9,7 +9,7 @@ use Rattle.operation_names.specs.Names.{unaryOf}
 use Rattle.interval.specs.IntervalMeaning.{outcome}
 use Rattle.meaning.proofs.CalledLaws.{written, refusing}
 use Rattle.request_laws.proofs.ReadLaws.{found₁, after₁, refused₁}
-use Rattle.bare_request.proofs.SoundOperands.{one-sound, write₁}
+use Rattle.request_operands.proofs.SoundOperands.{one-sound, write₁}
 use Rattle.bare_request.proofs.operation.one_operand.Statement.{statement}
 use Rattle.bare_request.proofs.operation.one_operand.Tie as tie
 

@@ -9,8 +9,8 @@ use Rattle.meaning.specs.Requests.{writeState, bareSize}
 use Rattle.overlap.specs.OverlapMeaning.{stateOf}
 use Rattle.meaning.proofs.CalledLaws.{written, refusing}
 use Rattle.request_laws.proofs.ReadLaws.{found₂, after₂, refused₂}
-use Rattle.bare_request.specs.OperandMeaning.{bothOf}
-use Rattle.bare_request.proofs.SoundOperands.{two-sound, write₂}
+use Rattle.request_operands.specs.OperandMeaning.{bothOf}
+use Rattle.request_operands.proofs.SoundOperands.{two-sound, write₂}
 use Rattle.bare_request.proofs.operation.overlap_state.Statement.{statement}
 use Rattle.bare_request.proofs.operation.overlap_state.Tie as tie
 

@@ -4,7 +4,7 @@ use Rattle.meaning.specs.Bytes.{bigEndian, writeDecorated}
 use Rattle.dec_interval.specs.DecIntervalMeaning.{decOutcome}
 use Rattle.meaning.proofs.CalledLaws.{written, refusing}
 use Rattle.request_laws.proofs.ReadLaws.{found₁, after₁, refused₁}
-use Rattle.decorated_request.proofs.SoundOperands.{one-sound, write₁}
+use Rattle.request_operands.proofs.SoundDecOperands.{one-sound, write₁}
 use Rattle.decorated_request.proofs.operation.one_operand.Statement.{statement}
 use Rattle.decorated_request.proofs.operation.one_operand.Tie as tie
 

@@ -7,8 +7,8 @@ use Rattle.meaning.specs.Overlap.{DecoratedOverlap}
 use Rattle.meaning.specs.Requests.{writeState, decoratedSize}
 use Rattle.meaning.proofs.CalledLaws.{written, refusing}
 use Rattle.request_laws.proofs.ReadLaws.{found₂, after₂, refused₂}
-use Rattle.decorated_request.specs.DecOperandMeaning.{bothOf}
-use Rattle.decorated_request.proofs.SoundOperands.{two-sound, write₂}
+use Rattle.request_operands.specs.DecOperandMeaning.{bothOf}
+use Rattle.request_operands.proofs.SoundDecOperands.{two-sound, write₂}
 use Rattle.decorated_request.proofs.operation.overlap_state.Statement.{statement}
 use Rattle.decorated_request.proofs.operation.overlap_state.Tie as tie
 

@@ -3,8 +3,8 @@ use borrow.Author.Needs.{needs}
 use Rattle.meaning.specs.Bytes.{bigEndian, writeDecorated}
 use Rattle.meaning.proofs.CalledLaws.{written, refusing}
 use Rattle.request_laws.proofs.ReadLaws.{found₂, after₂, refused₂}
-use Rattle.decorated_request.specs.DecOperandMeaning.{bothOf}
-use Rattle.decorated_request.proofs.SoundOperands.{two-sound, write₂}
+use Rattle.request_operands.specs.DecOperandMeaning.{bothOf}
+use Rattle.request_operands.proofs.SoundDecOperands.{two-sound, write₂}
 use Rattle.decorated_request.proofs.operation.two_operands.Statement.{statement}
 use Rattle.decorated_request.proofs.operation.two_operands.Tie as tie
 

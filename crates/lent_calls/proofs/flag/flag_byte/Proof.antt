@@ -1,6 +1,6 @@
 -- `flag::flag_byte` meets its contract: 1 for true, and 0 for false.
 use mathlib.Core.Path.{sym, ap}
-use Rattle.meaning.specs.ExactRequests.{flagByte}
+use Rattle.meaning.specs.Requests.{flagByte}
 use Rattle.lent_calls.proofs.flag.flag_byte.Statement.{statement}
 use Rattle.lent_calls.proofs.flag.flag_byte.Tie as tie
 

@@ -1,2 +1,0 @@
--- Laws of bare operands that were read.
-pub mod SoundOperands

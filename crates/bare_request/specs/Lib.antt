@@ -1,2 +1,0 @@
--- What the contracts of bare requests cite.
-pub mod OperandMeaning

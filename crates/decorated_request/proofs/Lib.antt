@@ -1,2 +1,0 @@
--- Laws of decorated operands that were read.
-pub mod SoundOperands

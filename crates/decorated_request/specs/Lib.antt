@@ -1,2 +1,0 @@
--- What the contracts of decorated requests cite.
-pub mod DecOperandMeaning
