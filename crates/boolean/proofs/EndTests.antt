@@ -7,10 +7,9 @@ use Rattle.truth.specs.Answers.{Answers, affirmed, denied}
 use Rattle.truth.proofs.AnswerLaws.{answers-iff}
 use Rattle.patterns.specs.Format.{Format, infinity}
 use Rattle.meaning.specs.Fraction.{Fraction, _≼_, _≺_}
-use Rattle.meaning.specs.Sets.{End, Set, empty, span, Ordered, ordered, noLower, noUpper}
+use Rattle.meaning.specs.Sets.{End, Set, Ordered, ordered, noLower, noUpper}
 use Rattle.meaning.specs.Pairs.{Pair, Proper, EmptyPair, Bare, setOf}
 use Rattle.meaning.specs.Comparisons.{EachSome, EachEach}
-use Rattle.meaning.proofs.PairLaws.{lower-not-infinity}
 use Rattle.meaning.proofs.SetLaws.{some-member}
 use Rattle.end_pairs.specs.Keys.{keyOf}
 use Rattle.end_pairs.proofs.KindLaws.{proper-not-empty}

@@ -1,17 +1,16 @@
 -- Ends are in order exactly if their keys are, infinite ones among them, once for `≼` and `≺`.
-use mathlib.Core.Logic.{_⊎_, inl, inr, ⊎-elim}
+use mathlib.Core.Logic.{_⊎_, inl, inr}
 use mathlib.Core.Path.{_≡_, ap}
 use Prim.Native.Nat.{ℕ, _*_, _<_, _≤_}
 use native.Mathlib.Nat.{le-of-lt}
 use native.Mathlib.Omega.{arith}
 use Rattle.patterns.specs.Format.{Format, infinity, signBit}
-use Rattle.patterns.proofs.UpLaws.{infinity-positive}
 use Rattle.meaning.specs.Fraction.{Fraction, _≼_, _≺_}
-use Rattle.meaning.specs.Sets.{End, at, unbounded}
-use Rattle.meaning.specs.Pairs.{worth, minusInfinity}
+use Rattle.meaning.specs.Sets.{End}
+use Rattle.meaning.specs.Pairs.{worth}
 use Rattle.meaning.proofs.FractionLaws.{lt-not-le}
 use Rattle.end_pairs.specs.Keys.{keyOf}
-use Rattle.end_pairs.proofs.KeyLaws.{key-le, key-lt, key-infinity, key-minusInfinity, finite-keys}
+use Rattle.end_pairs.proofs.KeyLaws.{key-le, key-lt, infinite-keys, finite-keys}
 use Rattle.end_pairs.proofs.Shapes.{LowerShape, lowerFinite, lowerInfinite, UpperShape, upperFinite, upperInfinite}
 use Rattle.comparison_laws.specs.Ends.{Reaches, reaches, reachesAll, Before, before}
 
@@ -33,9 +32,6 @@ module _ (F : Format) where
 
   pub strict-keys : Keyed F _≺_ _<_
   strict-keys = record { values = key-lt F; keys = strict-back; at-most = le-of-lt }
-
-  infinities : keyOf F (minusInfinity F) < keyOf F (infinity F)
-  infinities = omega (arith, key-infinity F, key-minusInfinity F, infinity-positive F)
 
   -- An infinite upper end is reached by all.
   pub reach-infinite : {R : Fraction → Fraction → Type 0} {m : ℕ} {b d : End} → UpperShape F m d → m ≡ infinity F → Reaches R b d
@@ -59,7 +55,7 @@ module _ (F : Format) where
     come-before (upperFinite f) (lowerFinite g) k = before (keyed .values (f .pattern) (g .pattern) k)
     come-before (upperFinite f) (lowerInfinite e) k = absurd (omega (arith, keyed .at-most k, finite-keys F f, ap (keyOf F) e))
     come-before (upperInfinite e) (lowerFinite g) k = absurd (omega (arith, keyed .at-most k, finite-keys F g, ap (keyOf F) e))
-    come-before (upperInfinite e) (lowerInfinite i) k = absurd (omega (arith, keyed .at-most k, infinities, ap (keyOf F) e, ap (keyOf F) i))
+    come-before (upperInfinite e) (lowerInfinite i) k = absurd (omega (arith, keyed .at-most k, infinite-keys F, ap (keyOf F) e, ap (keyOf F) i))
 
     pub before-only : {b c : End} → UpperShape F n b → LowerShape F m c → Before R b c → K (keyOf F n) (keyOf F m)
     before-only (upperFinite f) (lowerFinite g) (before r) = keyed .keys (f .pattern) (g .pattern) r

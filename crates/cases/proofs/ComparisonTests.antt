@@ -11,13 +11,13 @@ use Rattle.meaning.specs.Sets.{End, at, unbounded, Set, empty, span, Valid, val
 use Rattle.meaning.specs.Pairs.{Pair, both, Bare, setOf}
 use Rattle.meaning.specs.Statement.{given, right₂, bareGood}
 use Rattle.meaning.specs.Comparisons.{Comparison, equal, subset, interior, disjoint, less, strictLess, precedes, strictPrecedes, EachSome, EachEach, Compares, BareComparison}
-use Rattle.meaning.proofs.PairLaws.{set-valid}
+use Rattle.meaning.proofs.PairLaws.{split, set-valid}
 use Rattle.meaning.proofs.SetLaws.{some-member, mirror-ordered}
 use Rattle.comparison_laws.specs.Ends.{Ascending, Reaches, reaches, reachesAll, Before, before}
 use Rattle.comparison_laws.proofs.AscendingLaws.{weak, strict}
 use Rattle.comparison_laws.proofs.MemberEnds.{each-some, each-some-only, each-each, each-each-only}
 use Rattle.comparison_laws.proofs.MemberSets.{from-mirror, to-mirror, subset-halves, disjoint-either}
-use Rattle.cases.proofs.Tests.{split, leTest, ltTest}
+use Rattle.cases.proofs.Tests.{leTest, ltTest}
 use Rattle.cases.proofs.RowTests.{bareTest, bare-tested}
 use Rattle.cases.proofs.ExactTests.{agrees, agreed}
 

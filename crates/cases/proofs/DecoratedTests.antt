@@ -10,10 +10,11 @@ use Rattle.meaning.specs.Pairs.{both, setOf, NaNs}
 use Rattle.meaning.specs.Decorations.{Com, decorationByte, lowerOf, settled, Allows₂}
 use Rattle.meaning.specs.Sets.{Set}
 use Rattle.meaning.specs.Statement.{DecPair, given, Agrees, Decorated₂, right₂, decoratedGood, rightInterval}
+use Rattle.meaning.proofs.PairLaws.{split}
 use Rattle.uniqueness.proofs.PairLaws.{proper-not-empty, proper-not-nans}
 use Rattle.uniqueness.proofs.DecorationOrder.{byte-injective}
 use Rattle.theorem3.specs.Answer.{Arithmetic, adding, subtracting, multiplying, dividing, binary}
-use Rattle.cases.proofs.Tests.{split, properTest, proper-tested}
+use Rattle.cases.proofs.Tests.{properTest, proper-tested}
 use Rattle.cases.proofs.RowTests.{boundedTest, bounded-tested, arithmeticTest, arithmetic-hull}
 
 abbrev soundTest : Format → DecPair → Bool

@@ -14,14 +14,14 @@ use Rattle.meaning.specs.Pairs.{Pair, both, minusInfinity, Bare, endOf, setOf}
 use Rattle.meaning.specs.Statement.{given, right₁, right₂, bareGood}
 use Rattle.meaning.proofs.ExactEnds.{UpperEndTold}
 use Rattle.meaning.specs.Exactness.{ExactPair, ExactHullOf, Exact₁, Exact₂}
-use Rattle.meaning.proofs.PairLaws.{set-valid}
+use Rattle.meaning.proofs.PairLaws.{split, set-valid}
 use Rattle.meaning.proofs.PatternHull.{hull-of-none}
 use Rattle.meaning.proofs.ExactLaws.{exact-of-ends, exact-of-none}
 use Rattle.theorem3.specs.Answer.{Arithmetic, binary, Bounds, nothing, between, TrueBounds, noResults, someResults, boundsOf, boundsOfNeg}
 use Rattle.theorem3.specs.Told.{sameBy}
 use Rattle.theorem3.proofs.TrueBounds.{bounds-right, neg-bounds-right}
 use Rattle.theorem3.proofs.ExactTheorem3.{same-told}
-use Rattle.cases.proofs.Tests.{split, upperTest, upper-tested}
+use Rattle.cases.proofs.Tests.{upperTest, upper-tested}
 use Rattle.cases.proofs.RowTests.{bareTest, bare-tested}
 
 -- A flag says what the other truth value says.

@@ -12,7 +12,7 @@ use Rattle.meaning.specs.Points.{Unary, neg, abs, ceil, floor, round, roundTies
 use Rattle.meaning.specs.Results.{Operation, point, convexHull, intersection, Result₁, Result₂}
 use Rattle.meaning.specs.Pairs.{Pair, Proper, worth, both, minusInfinity, endOf, setOf}
 use Rattle.meaning.specs.Statement.{HullOf}
-use Rattle.meaning.proofs.PairLaws.{set-valid}
+use Rattle.meaning.proofs.PairLaws.{split, set-valid}
 use Rattle.points.specs.Ends.{numbers, greaterSecond, lesserFirst, lesserSecond, greaterFirst, upperNearer, upperOfBoth, Bounds}
 use Rattle.points.proofs.Extremes.{max-bounds, min-bounds}
 use Rattle.points.proofs.Magnitudes.{abs-bounds}
@@ -21,7 +21,7 @@ use Rattle.theorem3.specs.Ends.{reciprocal, greater}
 use Rattle.theorem3.specs.Answer.{Arithmetic, adding, subtracting, multiplying, dividing, binary, between, TrueBounds, someResults}
 use Rattle.theorem3.proofs.TrueBounds.{neg-bounds-right}
 use Rattle.cases.specs.Table.{pair, only, minusZero, oneHalf, one, oneAndHalf, two, three, four, minusOne, minusTwo, minusThree, minusSix, eight, entire, emptiness}
-use Rattle.cases.proofs.Tests.{split, properTest, proper-tested, le-tested, answer-tested}
+use Rattle.cases.proofs.Tests.{properTest, proper-tested, le-tested, answer-tested}
 use Rattle.cases.proofs.RowTests.{arithmeticTest, arithmetic-hull, bare-tested, stepTest, step-hull-tested}
 
 -- The answer z, which is neither ENTIRE nor EMPTY nor x.

@@ -6,7 +6,8 @@ use lib.Dec.{T, eqb, eqb→eq, T-not}
 use Rattle.meaning.specs.Fraction.{Fraction, _≈_, _⊕_, negated, whole, half, Whole, Even}
 use Rattle.meaning.specs.Points.{Unary, neg, abs, ceil, floor, round, roundTiesEven, sign, trunc, Ceil, Floor, Nearest, Sign, Trunc, Makes₁}
 use Rattle.meaning.specs.Pairs.{both}
-use Rattle.cases.proofs.Tests.{either, split, of-either, leTest, ltTest, eqTest, le-tested, lt-tested, eq-tested, eq-passes, le-passes, lt-passes}
+use Rattle.meaning.proofs.PairLaws.{split}
+use Rattle.cases.proofs.Tests.{either, of-either, leTest, ltTest, eqTest, le-tested, lt-tested, eq-tested, eq-passes, le-passes, lt-passes}
 
 abbrev wholeTest : Fraction → Bool
 wholeTest r = eqb (r .up + (r .down - r .up) / r .over * r .over) ((r .up - r .down) / r .over * r .over + r .down)

@@ -16,7 +16,7 @@ use Rattle.meaning.specs.Pairs.{Pair, worth, both, minusInfinity, Proper, Bare,
 use Rattle.meaning.specs.Statement.{given, HullOf, Bare₁, Bare₂, right₁, right₂, bareGood}
 use Rattle.meaning.specs.Supremum.{UpperEnd}
 use Rattle.meaning.proofs.FractionLaws.{eq-refl}
-use Rattle.meaning.proofs.PairLaws.{set-valid, set-proper, end-finite, worth-opposite, opposite-sign}
+use Rattle.meaning.proofs.PairLaws.{split, set-valid, set-proper, end-finite, worth-opposite, opposite-sign}
 use Rattle.meaning.proofs.PatternHull.{pairBy}
 use Rattle.points.specs.Functions.{Mirrors, ceilFloor, floorCeil, roundRound, evenEven, signSign, truncTrunc}
 use Rattle.points.specs.Ends.{ofNumber}
@@ -25,7 +25,7 @@ use Rattle.points.proofs.Exactly.{exact-number}
 use Rattle.points.proofs.Answers.{answer}
 use Rattle.theorem3.specs.Answer.{Arithmetic, binary, boundsOf}
 use Rattle.theorem3.proofs.TrueBounds.{bounds-right}
-use Rattle.cases.proofs.Tests.{either, split, of-either, finiteTest, finite-tested, properTest, proper-tested, answerTest, answer-tested}
+use Rattle.cases.proofs.Tests.{either, of-either, finiteTest, finite-tested, properTest, proper-tested, answerTest, answer-tested}
 use Rattle.cases.proofs.PointTests.{madeTest, made-tested}
 
 abbrev pub bareTest : Format → Pair → Bool

@@ -10,11 +10,11 @@ use Rattle.meaning.specs.Sets.{at, Set, span}
 use Rattle.meaning.specs.Pairs.{Pair, worth, both, setOf, Proper}
 use Rattle.meaning.specs.Statement.{right₂, bareGood}
 use Rattle.meaning.specs.Overlap.{State, bothEmpty, firstEmpty, secondEmpty, before, meets, overlaps, starts, containedBy, finishes, equals, finishedBy, contains, startedBy, overlappedBy, metBy, after, stateNumber, Conditions, number, Less, lessNumbers, Same, sameNumbers, OverlapOf}
-use Rattle.meaning.proofs.PairLaws.{set-proper, end-finite}
+use Rattle.meaning.proofs.PairLaws.{split, set-proper, end-finite}
 use Rattle.uniqueness.specs.Order.{Keys}
 use Rattle.uniqueness.proofs.KeyLaws.{by-keys, map-keys}
 use Rattle.cases.specs.Rows.{RightState}
-use Rattle.cases.proofs.Tests.{split, ltTest, eqTest, lt-tested, eq-tested, properTest, proper-tested}
+use Rattle.cases.proofs.Tests.{ltTest, eqTest, lt-tested, eq-tested, properTest, proper-tested}
 use Rattle.cases.proofs.RowTests.{boundedTest, bounded-tested}
 
 abbrev conditionsTest : State → (a b c d : Fraction) → Bool

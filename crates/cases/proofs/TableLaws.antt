@@ -6,12 +6,12 @@ use Rattle.patterns.specs.Format.{binary64, infinity, signBit}
 use Rattle.patterns.specs.Value.{value, magnitude, plus, minus, opposite}
 use Rattle.meaning.specs.Fraction.{_⊕_, _⊗_}
 use Rattle.meaning.specs.Pairs.{both, minusInfinity, endOf, setOf}
+use Rattle.meaning.proofs.PairLaws.{split}
 use Rattle.theorem3.specs.Ends.{reciprocal, greater}
 use Rattle.cases.specs.Rows.{Row, bare, decorated, stepped, state, exact, exactNeg, compared, Right, All, none, more}
 use Rattle.cases.specs.Table.{table}
 use Rattle.cases.specs.ExactTable.{exactTable}
 use Rattle.cases.specs.ComparisonTable.{comparisonTable}
-use Rattle.cases.proofs.Tests.{split}
 use Rattle.cases.proofs.RowTests.{arithmeticTest, arithmetic-tested, stepTest, step-tested}
 use Rattle.cases.proofs.StateTests.{stateTest, state-tested}
 use Rattle.cases.proofs.DecoratedTests.{decoratedTest, decorated-tested}

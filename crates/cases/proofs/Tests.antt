@@ -16,6 +16,7 @@ use Rattle.meaning.specs.Sets.{End, at, unbounded}
 use Rattle.meaning.specs.Pairs.{Pair, worth, both, minusInfinity, Proper}
 use Rattle.meaning.specs.Statement.{HullOf}
 use Rattle.meaning.specs.Supremum.{UpperEnd}
+use Rattle.meaning.proofs.PairLaws.{split}
 use Rattle.meaning.proofs.PatternHull.{hull-of-ends, hull-of-none}
 use Rattle.theorem3.proofs.Rounding.{end-not-negative, end-negative, end-vanishing, end-infinite}
 use Rattle.theorem3.specs.Answer.{Bounds, nothing, between, TrueBounds, noResults, someResults}
@@ -23,11 +24,6 @@ use Rattle.theorem3.specs.Answer.{Bounds, nothing, between, TrueBounds, noResul
 abbrev pub either : Bool → Bool → Bool
 either true b = true
 either false b = b
-
--- Both tests succeed.
-pub split : (a b : Bool) → T (both a b) → T a × T b
-split true b t = (tt, t)
-split false b t = absurd t
 
 pub of-either : (a b : Bool) → T (either a b) → T a ⊎ T b
 of-either true b t = inl tt

@@ -4,7 +4,6 @@ use mathlib.Core.Logic.{_↔_}
 use mathlib.Core.Path.{_≡_, refl}
 use Prim.Native.Nat.{ℕ}
 use native.Mathlib.Omega.{arith}
-use lib.Dec.{T}
 use Rattle.refusals.specs.declared.Refusal.{Refusal}
 use Rattle.truth.specs.Answers.{Answers}
 use Rattle.truth.proofs.AnswerLaws.{said-yes, said-no}

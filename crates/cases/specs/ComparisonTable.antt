@@ -1,5 +1,5 @@
 -- Cases of comparisons: the crate's documented examples, and those beside them that tell a right version from a likely wrong one.
-use mathlib.Core.Bool.{Bool, true, false}
+use mathlib.Core.Bool.{true, false}
 use mathlib.Core.List.{List, [], _∷_}
 use Rattle.meaning.specs.Comparisons.{equal, subset, interior, disjoint, less, strictLess, precedes, strictPrecedes}
 use Rattle.cases.specs.Rows.{Row, compared}

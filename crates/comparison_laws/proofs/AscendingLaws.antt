@@ -1,5 +1,5 @@
 -- `≼` and `≺` are orders that comparisons ask for.
-use Rattle.meaning.specs.Fraction.{Fraction, _≼_, _≺_}
+use Rattle.meaning.specs.Fraction.{_≼_, _≺_}
 use Rattle.meaning.proofs.FractionLaws.{le-trans, lt-le-trans, le-lt-trans, lt-le, neg-le, neg-lt}
 use Rattle.comparison_laws.specs.Ends.{Ascending}
 

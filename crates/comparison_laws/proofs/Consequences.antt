@@ -1,11 +1,9 @@
 -- What follows from the quantifiers: what ticket 3 says of EMPTY and ENTIRE, and how comparisons stand to each other.
 use mathlib.Core.Logic.{_↔_, inl}
-use Rattle.meaning.specs.Fraction.{Fraction}
-use Rattle.meaning.specs.Sets.{unbounded, Set, empty, span, underNone, overNone, Member, Inside, SameSet}
+use Rattle.meaning.specs.Sets.{unbounded, Set, empty, span, Inside, SameSet}
 use Rattle.meaning.specs.Comparisons.{equal, subset, interior, disjoint, less, strictLess, precedes, strictPrecedes, Compares}
 use Rattle.meaning.proofs.FractionLaws.{lt-le, eq-refl, eq-le, eq-ge}
-use Rattle.meaning.proofs.SetLaws.{upper-beyond}
-use Rattle.comparison_laws.proofs.MemberEnds.{lower-beyond}
+use Rattle.meaning.proofs.SetLaws.{upper-beyond, lower-beyond}
 use Rattle.comparison_laws.proofs.MemberSets.{between, weaken, subset-halves, differ-before}
 
 -- "EMPTY is a subset of everything."

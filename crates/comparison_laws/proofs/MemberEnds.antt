@@ -1,9 +1,9 @@
 -- The quantifiers over the members of two valid spans come to an order of their ends, once for `≼` and `≺`.
-use Rattle.meaning.specs.Fraction.{Fraction, _≼_, _≺_, negated}
-use Rattle.meaning.specs.Sets.{End, at, unbounded, span, Under, under, Over, over, Member, Ordered, mirrorEnd}
+use Rattle.meaning.specs.Fraction.{Fraction, _≼_, _≺_}
+use Rattle.meaning.specs.Sets.{End, at, unbounded, span, Under, under, Over, over, Ordered}
 use Rattle.meaning.specs.Comparisons.{EachSome, EachEach}
-use Rattle.meaning.proofs.FractionLaws.{le-trans, lt-not-le, neg-lt}
-use Rattle.meaning.proofs.SetLaws.{upper-member, lower-member, upper-beyond, some-member, mirror-member}
+use Rattle.meaning.proofs.FractionLaws.{le-trans, lt-not-le}
+use Rattle.meaning.proofs.SetLaws.{upper-member, lower-member, upper-beyond, lower-beyond, some-member}
 use Rattle.comparison_laws.specs.Ends.{Ascending, Reaches, reaches, reachesAll, Before, before}
 
 below : {x q : Fraction} → Under x (at q) → x ≼ q
@@ -11,12 +11,6 @@ below (under h) = h
 
 above : {x q : Fraction} → Over x (at q) → q ≼ x
 above (over h) = h
-
--- A span with no lower end has a member below any number.
-pub lower-beyond : (d : End) (q : Fraction) → (x : Fraction) × Member (span unbounded d) x × (x ≺ q)
-lower-beyond d q =
-    let (x, m, h) = upper-beyond (mirrorEnd d) (negated q) in
-    (negated x, mirror-member (span unbounded d) x m, neg-lt h)
 
 module _ {R : Fraction → Fraction → Type 0} (order : Ascending R) where
   -- Each member has another's in order exactly if the upper ends are in order.

@@ -1,7 +1,7 @@
 -- Comparisons that come to others: by mirror images, and since intervals have no gaps.
 use mathlib.Core.Logic.{_⊎_, _↔_, inl, inr, ⊎-elim}
-use Rattle.meaning.specs.Fraction.{Fraction, _≼_, _≺_, _≈_, negated}
-use Rattle.meaning.specs.Sets.{Set, empty, span, Member, Valid, validEmpty, validSpan, mirror}
+use Rattle.meaning.specs.Fraction.{Fraction, _≼_, _≺_, negated}
+use Rattle.meaning.specs.Sets.{Set, span, Member, Valid, validEmpty, validSpan, mirror}
 use Rattle.meaning.specs.Comparisons.{subset, disjoint, EachSome, EachEach, AtLeast, Differs, Compares}
 use Rattle.meaning.proofs.FractionLaws.{lt-le, lt-not-le, le-or-lt, eq-refl, eq-sym, eq-le, eq-ge, antisymm}
 use Rattle.meaning.proofs.SetLaws.{over-trans, under-trans, some-member, member-mirror, mirror-member}

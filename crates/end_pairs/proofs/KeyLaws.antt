@@ -10,6 +10,7 @@ use lib.Dec.{leb}
 use lib.Pow.{pow-pos}
 use Rattle.patterns.specs.Format.{Format, infinity, signBit}
 use Rattle.patterns.specs.Value.{value, plus, minus, choose, Finite}
+use Rattle.patterns.proofs.UpLaws.{infinity-positive}
 use Rattle.patterns.proofs.ValueLaws.{le-or-lt, value-zero, value-mono, value-strict, value-positive}
 use Rattle.patterns.proofs.SignLaws.{infinity-below, signed, finite-cases, plus-positive, minus-positive, plus-negative, minus-negative}
 use Rattle.meaning.specs.Fraction.{_≼_, _≺_, _≈_, whole}
@@ -149,6 +150,9 @@ key-infinity F = key-below F (infinity-below F)
 pub key-minusInfinity : (F : Format) → keyOf F (minusInfinity F) + infinity F ≡ signBit F
 unfolding minusInfinity
 key-minusInfinity F = omega (arith, key-above F {b = signBit F + infinity F} (omega arith), infinity-below F)
+
+pub infinite-keys : (F : Format) → keyOf F (minusInfinity F) < keyOf F (infinity F)
+infinite-keys F = omega (arith, key-infinity F, key-minusInfinity F, infinity-positive F)
 
 -- The keys of finite patterns lie between those of the infinities.
 pub finite-keys : (F : Format) {b : ℕ} → Finite F b

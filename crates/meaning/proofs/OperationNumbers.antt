@@ -1,5 +1,5 @@
 -- Each operation has its own number, from 1 to 25.
-use mathlib.Core.Bool.{Bool, true, false}
+use mathlib.Core.Bool.{Bool, true}
 use mathlib.Core.Logic.{_↔_}
 use mathlib.Core.Path.{_≡_, refl, sym, _∙_, ap, subst}
 use mathlib.Core.List.{List, [], _∷_}
@@ -11,6 +11,7 @@ use Rattle.meaning.specs.Points.{neg, abs, ceil, floor, round, roundTies
 use Rattle.meaning.specs.Results.{point, convexHull, intersection}
 use Rattle.meaning.specs.Pairs.{both}
 use Rattle.meaning.specs.Comparisons.{equal, subset, interior, disjoint, less, strictLess, precedes, strictPrecedes}
+use Rattle.meaning.proofs.PairLaws.{split}
 use Rattle.meaning.specs.Requests.{Asked, unary, binary, overlap, comparison, operationNumber, Asks}
 
 -- The operations from number 1 on.
@@ -95,10 +96,6 @@ not-large q h = omega (arith, only-overlap q (List·getD-eq-default (overlap ∷
 abbrev counts : ℕ → List Asked → Bool
 counts k [] = true
 counts k (q ∷ qs) = both (eqb (operationNumber q) k) (counts (suc k) qs)
-
-split : (s t : Bool) → T (both s t) → T s × T t
-split true t h = (tt, h)
-split false t h = absurd h
 
 counted : (k : ℕ) (qs : List Asked) → T (counts k qs) → (i : ℕ) → i < length qs → operationNumber (getD qs i overlap) ≡ k + i
 counted k [] t i h = absurd (omega arith)

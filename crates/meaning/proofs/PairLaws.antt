@@ -7,7 +7,7 @@ use native.Mathlib.Nat.{lt-of-le-of-lt, add-zero}
 use native.Mathlib.Omega.{arith}
 use borrow.Author.Needs.{zero≤}
 use borrow.Author.Tests.{lt-ltb, le-ltb, eq-eqb, ne-eqb}
-use lib.Dec.{ltb, eqb}
+use lib.Dec.{T, ltb, eqb}
 use lib.Pow.{pow-pos}
 use Rattle.patterns.specs.Format.{Format, infinity, signBit}
 use Rattle.patterns.specs.Value.{Finite, magnitude, opposite}
@@ -15,6 +15,11 @@ use Rattle.patterns.proofs.SignLaws.{plus-opposite, minus-opposite, magnitude-o
 use Rattle.meaning.specs.Fraction.{Fraction, negated}
 use Rattle.meaning.specs.Sets.{at, unbounded, empty, span, Ordered, ordered, noLower, noUpper, Valid, validEmpty, validSpan, mirrorEnd}
 use Rattle.meaning.specs.Pairs.{Pair, worth, minusInfinity, Proper, EmptyPair, Bare, endBy, endOf, both, setBy, setOf}
+
+-- Both tests succeed.
+pub split : (s t : Bool) → T (both s t) → T s × T t
+split true t h = (tt, h)
+split false t h = absurd h
 
 -- A finite pattern bounds by its worth.
 pub end-finite : (F : Format) {b : ℕ} → Finite F b → endOf F b ≡ at (worth F b)

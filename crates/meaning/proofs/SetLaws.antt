@@ -5,7 +5,7 @@ use native.Mathlib.Nat.{mul-pos}
 use native.Mathlib.Omega.{arith}
 use Rattle.meaning.specs.Fraction.{Fraction, _≼_, _≺_, _⊕_, negated, whole}
 use Rattle.meaning.specs.Sets.{End, at, unbounded, Set, empty, span, Under, under, underNone, Over, over, overNone, Member, SameSet, Ordered, ordered, noLower, noUpper, mirrorEnd, mirror, SameEnd, sameNumber, sameNone}
-use Rattle.meaning.proofs.FractionLaws.{le-refl, le-trans, lt-not-le, lt-le-trans, le-or-le, antisymm, neg-le}
+use Rattle.meaning.proofs.FractionLaws.{le-refl, le-trans, lt-not-le, lt-le-trans, le-or-le, antisymm, neg-le, neg-lt}
 
 pub under-trans : {x y : Fraction} (e : End) → x ≼ y → Under y e → Under x e
 under-trans (at q) h (under k) = under (le-trans h k)
@@ -70,6 +70,12 @@ upper-beyond (at a) q = go (le-or-le a (next q))
     go : (a ≼ next q) ⊎ (next q ≼ a) → (x : Fraction) × Member (span (at a) unbounded) x × (q ≺ x)
     go (inl h) = (next q, record { low = over h; high = underNone }, below-next q)
     go (inr h) = (a, record { low = over (le-refl a); high = underNone }, lt-le-trans (below-next q) h)
+
+-- A span with no lower end has a member below any number.
+pub lower-beyond : (d : End) (q : Fraction) → (x : Fraction) × Member (span unbounded d) x × (x ≺ q)
+lower-beyond d q =
+    let (x, m, h) = upper-beyond (mirrorEnd d) (negated q) in
+    (negated x, mirror-member (span unbounded d) x m, neg-lt h)
 
 -- A valid span has a member.
 pub some-member : {a b : End} → Ordered a b → (x : Fraction) × Member (span a b) x

@@ -5,13 +5,12 @@ use Prim.Native.Nat.{ℕ, _<_}
 use native.Mathlib.Omega.{arith}
 use Rattle.patterns.specs.Format.{Format, infinity}
 use Rattle.patterns.specs.Value.{Finite}
-use Rattle.patterns.proofs.UpLaws.{infinity-positive}
 use Rattle.meaning.specs.Pairs.{Pair, worth, minusInfinity, Proper, EmptyPair, endOf, setOf}
 use Rattle.meaning.specs.Overlap.{State, bothEmpty, firstEmpty, secondEmpty, Conditions, Extended, minusInf, number, plusInf, asLower, asUpper, Less, lessNumbers, fromMinus, toPlus, across, Same, sameNumbers, minuses, pluses, OverlapOf}
 use Rattle.meaning.proofs.FractionLaws.{antisymm}
 use Rattle.meaning.proofs.PairLaws.{end-finite, end-infinity, end-minusInfinity, set-proper, set-empty}
 use Rattle.end_pairs.specs.Keys.{keyOf}
-use Rattle.end_pairs.proofs.KeyLaws.{key-le, key-lt, key-infinity, key-minusInfinity, finite-keys}
+use Rattle.end_pairs.proofs.KeyLaws.{key-le, key-lt, infinite-keys, finite-keys}
 use Rattle.uniqueness.specs.Order.{Keys}
 use Rattle.uniqueness.proofs.KeyLaws.{by-keys}
 
@@ -22,9 +21,6 @@ data Keyed (F : Format) : ℕ → Extended → Type 0 where
   keyPlus : Keyed F (keyOf F (infinity F)) plusInf
 
 module _ (F : Format) where
-  infinities : keyOf F (minusInfinity F) < keyOf F (infinity F)
-  infinities = omega (arith, key-infinity F, key-minusInfinity F, infinity-positive F)
-
   keeps-less : {k m : ℕ} {x y : Extended} → Keyed F k x → Keyed F m y → k < m → Less x y
   keeps-less (keyNumber f) (keyNumber g) h = lessNumbers (key-lt F (f .pattern) (g .pattern) h)
   keeps-less (keyNumber f) keyMinus h = absurd (omega (arith, finite-keys F f))
@@ -33,7 +29,7 @@ module _ (F : Format) where
   keeps-less keyMinus keyMinus h = absurd (omega arith)
   keeps-less keyMinus keyPlus h = across
   keeps-less keyPlus (keyNumber g) h = absurd (omega (arith, finite-keys F g))
-  keeps-less keyPlus keyMinus h = absurd (omega (arith, infinities))
+  keeps-less keyPlus keyMinus h = absurd (omega (arith, infinite-keys F))
   keeps-less keyPlus keyPlus h = absurd (omega arith)
 
   keeps-same : {k m : ℕ} {x y : Extended} → Keyed F k x → Keyed F m y → k ≡ m → Same x y
@@ -43,9 +39,9 @@ module _ (F : Format) where
   keeps-same (keyNumber f) keyPlus h = absurd (omega (arith, finite-keys F f))
   keeps-same keyMinus (keyNumber g) h = absurd (omega (arith, finite-keys F g))
   keeps-same keyMinus keyMinus h = minuses
-  keeps-same keyMinus keyPlus h = absurd (omega (arith, infinities))
+  keeps-same keyMinus keyPlus h = absurd (omega (arith, infinite-keys F))
   keeps-same keyPlus (keyNumber g) h = absurd (omega (arith, finite-keys F g))
-  keeps-same keyPlus keyMinus h = absurd (omega (arith, infinities))
+  keeps-same keyPlus keyMinus h = absurd (omega (arith, infinite-keys F))
   keeps-same keyPlus keyPlus h = pluses
 
   end-keys : Keys _<_ _≡_ Less Same (Keyed F)

@@ -1,5 +1,4 @@
 -- `operation::comparison` meets its contract: sound operands are compared, and any others refused.
-use mathlib.Core.Bool.{Bool}
 use mathlib.Core.Path.{_∙_, ap₂}
 use borrow.Author.Needs.{needs}
 use Rattle.truth.specs.Answers.{Answers}

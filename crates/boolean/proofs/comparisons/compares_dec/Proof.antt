@@ -1,7 +1,6 @@
 -- `comparisons::compares_dec` meets its contract: NaI compares to nothing, and intervals compare as the bare ones do.
 use borrow.Author.Needs.{needs}
 use Rattle.patterns.specs.Format.{binary64}
-use Rattle.operation_names.specs.Names.{comparisonOf}
 use Rattle.operation_steps.proofs.SortedLaws.{nai, intervals}
 use Rattle.comparison_laws.proofs.NaIComparisons.{nai-compared, intervals-compared}
 use Rattle.boolean.proofs.comparisons.compares_dec.Statement.{statement}

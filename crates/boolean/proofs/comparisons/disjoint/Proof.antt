@@ -1,5 +1,4 @@
 -- `comparisons::disjoint` meets its contract: each is tested to precede the other.
-use borrow.Author.Needs.{needs}
 use mathlib.Core.Logic.{inl}
 use Rattle.patterns.specs.Format.{binary64}
 use Rattle.meaning.proofs.PairLaws.{set-valid}
