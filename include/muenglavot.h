@@ -4,8 +4,10 @@
  *   Bare, 16 bytes: the lower end, then the upper end, each an IEEE 754 double in eight bytes.
  *   Decorated, 17 bytes: the same, then one byte for the decoration: 0 Ill, 4 Trv, 8 Def, 12 Dac, 16 Com.
  *   A zero lower end is -0.0 and a zero upper end +0.0. An infinite end says that there is no bound.
- *   EMPTY is (+inf, -inf), decorated with Trv. NaI, which is no interval, is two NaNs with byte 0: any NaNs are read,
- *   and 7FF8000000000000 is written twice.
+ *   EMPTY is (+inf, -inf), decorated with Trv. NaI, which is no interval, is 7FF8000000000000 in both ends with byte 0; any
+ *   other NaN is refused.
+ *   Two of these that are accepted, of one length and in one byte order, are the same value (the same set and the same
+ *   decoration, or both NaI) exactly if their bytes are equal, so that archives can be compared byte by byte.
  *
  * A REQUEST
  *   One byte for the operation, then two operands, big endian: 33 bytes bare (answer 16), 35 decorated (answer 17).
@@ -42,8 +44,9 @@
  *   2  the output's length is not exactly that of the answer
  *   3  the operation number is not 1 to 25, or not 1 to 5 where exact ends are asked for
  *   4  the decoration's byte is not 0, 4, 8, 12 or 16
- *   5  the ends are those of no interval: not in order, a wrong infinity, a wrong zero, or a NaN
- *   6  the decoration does not go with the ends: Ill on an interval, Com with an infinite end, EMPTY without Trv, two NaNs
+ *   5  the ends are those of no interval: not in order, a wrong infinity, a wrong zero, or a NaN, but for NaI's ends where a
+ *      decoration follows
+ *   6  the decoration does not go with the ends: Ill on an interval, Com with an infinite end, EMPTY without Trv, NaI's ends
  *      without Ill
  *   With 4, 5 and 6 comes the place, 1 or 2; a codec has place 1 only. Otherwise the place is 0. The numbers are tried in
  *   the order 1, 2, 3, then 4, 5, 6 on the first operand, then on the second.

@@ -18,21 +18,20 @@ sys.path.insert(0, str(Path(__file__).resolve().parent.parent / 'python'))
 
 from compare import answers, driver
 from differences import unread
-from forms import ill_pair
+from forms import nai_to_the_crate
 from muenglavot_reference.document import (
-    ANSWER, ILL, NAI, OPERAND, operand_refusal, operands, refused, turned)
+    ANSWER, NAI, OPERAND, operand_refusal, operands, refused, turned)
 from request_lists import Generator
 
 
 def expected(kind, interval):
     """Document 01's answer and the crate's, in big endian."""
     number = operand_refusal(interval)
-    is_nai = kind == 'decorated' and interval[16] == ILL
-    accepted = bytes(2) + (NAI if is_nai else interval)
     if not number:
+        accepted = bytes(2) + interval
         return accepted, accepted
     ours = refused(kind, number, 1)
-    return ours, accepted if ill_pair(interval) else unread(len(ours), 1)
+    return ours, bytes(2) + NAI if nai_to_the_crate(interval) else unread(len(ours), 1)
 
 
 def checks(kind, intervals, order, command):
@@ -58,6 +57,8 @@ def main():
     for kind in OPERAND:
         requests = Generator(kind, given.seed).requests(given.count)
         intervals = [operand for request in requests for operand in operands(request)]
+        others = sum(nai_to_the_crate(one) and operand_refusal(one) == 5 for one in intervals)
+        print(f'{kind}: {len(intervals)} intervals, {others} of them another spelling of NaI')
         for order in ('be-to-le', 'le-to-be'):
             for source, wanted, found in checks(kind, intervals, order, given.ours):
                 if wanted == found:

@@ -28,7 +28,11 @@ def refused_operand(form, request, number, place):
 
 
 def refused_ill_pair(form, request, number, place):
-    return number == 6 and form.ill_pair_at(request, place)
+    return number == 6 and form.nai_to_the_crate_at(request, place)
+
+
+def refused_other_nans(form, request, number, place):
+    return number == 5 and form.nai_to_the_crate_at(request, place)
 
 
 def trunc_to_zero(form, request, number, place):
@@ -93,6 +97,7 @@ def crate_says_the_interval(form, request, ours, theirs):
 DIFFERENCES = {
     'operation number': (unknown_operation, crate_has_no_number),
     'Ill on a proper pair': (refused_ill_pair, crate_takes_it_for_nai),
+    'another spelling of NaI': (refused_other_nans, crate_takes_it_for_nai),
     'refusal number': (refused_operand, crate_has_no_number),
     'trunc at a zero end': (trunc_to_zero, ours_dac_theirs_com),
     "try_from of EMPTY's ends": (try_from_empty_ends, ours_empty_theirs_unread),

@@ -19,11 +19,10 @@ from differences import judge
 from forms import FORMS
 from muenglavot_reference import values
 from muenglavot_reference.answers import ONE_BYTE
-from muenglavot_reference.document import (
-    ENDS, TOO_SHORT, operands_read, proper, refusal, refused)
+from muenglavot_reference.document import ENDS, TOO_SHORT, operands_read, proper, refused
 
 SEED = 1788
-DRAWN = 200_000
+DRAWN = 250_000
 # The least size of the bench program's list.
 SIZE = 4_000
 
@@ -36,27 +35,26 @@ def sort_of(operand):
     return 'EMPTY' if a > b else ((a > 0) - (a < 0), (b > 0) - (b < 0))
 
 
-def request_situation(request, answer):
-    """The operation, and the refusal, or the sorts of operands and what is told: an answer of
-    one byte, or the decoration, which is the last."""
-    operation = request[0]
-    number, place = refusal(request)
-    if number == 3:
+def refusal_situation(form, request):
+    """What is asked for, the refusal, and whether the crate takes the operand for NaI; of an
+    unknown number the refusal alone. Nothing if the request is accepted."""
+    number, place = form.refusal(request)
+    if number in (0, 3):
         return number
-    if number:
-        return operation, number, place
+    return request[0], number, place, form.nai_to_the_crate_at(request, place)
+
+
+def request_situation(request, answer):
+    """Of an accepted request: the operation, the sorts of operands and what is told: an answer
+    of one byte, or the decoration, which is the last."""
+    operation = request[0]
     told = answer[2] if operation in ONE_BYTE else answer[-1]
     return operation, told, *map(sort_of, operands_read(request))
 
 
 def record_situation(record, answer):
-    """The function, and the refusal, or whether the first operand is NaI, EMPTY, or has a
+    """Of an accepted record: the function, and whether the first operand is NaI, EMPTY, or has a
     zero of the other sign; with an answer of one byte to two operands, that and their sorts."""
-    number, place = values.refusal(record)
-    if number == 3:
-        return number
-    if number:
-        return record[0], number, place
     given = [way.judged(operand) for _, way, operand in values.taken(record)]
     if values.FUNCTIONS[record[0]].operation in ONE_BYTE:
         return record[0], answer[2], *map(sort_of, given)
@@ -67,13 +65,13 @@ def record_situation(record, answer):
     return record[0], *told
 
 
-def chosen(situation, requests, crate, size):
+def chosen(situations, size):
     """The places of the requests to keep."""
     first = {}
-    for at, pair in enumerate(zip(requests, crate)):
-        first.setdefault(situation(*pair), at)
+    for at, situation in enumerate(situations):
+        first.setdefault(situation, at)
     kept = set(first.values())
-    for at in range(len(requests)):
+    for at in range(len(situations)):
         if len(kept) >= size:
             break
         kept.add(at)
@@ -83,7 +81,8 @@ def chosen(situation, requests, crate, size):
 def make(program, kind, requests, situation, size=0, piece=b''):
     form = FORMS[kind]
     crate = list(answers(driver(kind), requests, form.answer_length))
-    places = chosen(situation, requests, crate, size)
+    places = chosen([refusal_situation(form, request) or situation(request, answer)
+                     for request, answer in zip(requests, crate)], size)
     kept = []
     for at in places:
         ours = form.answer(requests[at])

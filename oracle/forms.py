@@ -8,10 +8,12 @@ from muenglavot_reference.document import (
     ANSWER, ENDS, ILL, NAI, OPERAND, OPERATIONS, REQUEST, operands, proper, refusal)
 
 
-def ill_pair(operand, by_value=False):
-    """Whether an operand is a proper pair with the decoration Ill."""
-    return (len(operand) == OPERAND['decorated'] and operand[16] == ILL
-            and proper(*ENDS.unpack_from(operand), by_value))
+def nai_to_the_crate(operand, by_value=False):
+    """Whether the crate takes an operand for NaI: a proper pair or any two NaNs, with Ill."""
+    if len(operand) != OPERAND['decorated'] or operand[16] != ILL:
+        return False
+    a, b = ENDS.unpack_from(operand)
+    return proper(a, b, by_value) or a != a and b != b
 
 
 class Requests:
@@ -28,14 +30,14 @@ class Requests:
         return OPERATIONS[request[0] - 1] if 1 <= request[0] <= len(OPERATIONS) else None
 
     @staticmethod
-    def ill_pair_at(request, place):
-        return ill_pair(operands(request)[place - 1])
+    def nai_to_the_crate_at(request, place):
+        return nai_to_the_crate(operands(request)[place - 1])
 
     @staticmethod
     def with_nai(request):
-        """The request with NaI in place of each proper pair with Ill."""
+        """The request with NaI in place of each operand that the crate takes for it."""
         return request[:1] + b''.join(
-            NAI if ill_pair(operand) else operand for operand in operands(request))
+            NAI if nai_to_the_crate(operand) else operand for operand in operands(request))
 
     def decorated_operation(self, request):
         """The number of the operation on decorated intervals, or 0."""
@@ -55,16 +57,16 @@ class Records:
         return function and function.name
 
     @staticmethod
-    def ill_pair_at(record, place):
+    def nai_to_the_crate_at(record, place):
         _, way, operand = values.taken(record)[place - 1]
-        return ill_pair(way.judged(operand), way.by_value)
+        return nai_to_the_crate(way.judged(operand), way.by_value)
 
     @classmethod
     def with_nai(cls, record):
-        """The record with NaI in place of each proper pair with Ill."""
+        """The record with NaI in place of each operand that the crate takes for it."""
         changed = list(operands(record))
         for place, way, _ in values.taken(record):
-            if cls.ill_pair_at(record, place):
+            if cls.nai_to_the_crate_at(record, place):
                 changed[place - 1] = way.in_order(NAI)
         return record[:1] + b''.join(changed)
 

@@ -10,7 +10,7 @@ from struct import pack
 
 import request_lists
 from muenglavot_reference.document import (
-    COM, DAC, DECORATIONS, DEF, ILL, QUIET, TRV, decorated, operands)
+    COM, DAC, DECORATIONS, DEF, ENDS, ILL, PATTERNS, QUIET, TRV, operands)
 from muenglavot_reference.values import FUNCTIONS
 from recipes import LARGEST, TINY, both_signs
 
@@ -51,19 +51,25 @@ class Generator(request_lists.Generator):
             yield self.spoilt(record) if self.random() < 0.04 else record
 
 
-# Both zeros, the smallest, one, the largest, both infinities and three NaNs, as patterns.
+# Both zeros, the smallest, one, the largest, both infinities, NaI's NaN and others, as patterns.
 ALL_ENDS = [pack('>d', end) for end in both_signs((0.0, TINY, 1.0, LARGEST, inf))] + [
-    pack('>Q', end) for end in (QUIET, request_lists.SIGNALLING, 2 ** 64 - 1)]
+    pack('>Q', end) for end in (QUIET, *request_lists.OTHER_NANS)]
 
 # Pairs of ends with what is to be tried behind them: accepted, and refused in every way.
 PAIRS = (
     ((1.0, 2.0), (COM, TRV, ILL, NO_DECORATION)), ((-3.0, 4.0), (DEF,)), ((0.0, -0.0), (COM, ILL)),
     ((-0.0, 0.0), (DAC,)), ((0.0, 1.0), (COM,)), ((-1.0, -0.0), (COM,)),
     ((1.0, inf), (DAC, COM)), ((-inf, 1.0), (DEF, COM)), ((-inf, inf), (DAC, COM, ILL)),
-    ((inf, -inf), DECORATIONS), ((nan, nan), (*DECORATIONS, NO_DECORATION)),
-    ((nan, 1.0), (TRV,)), ((1.0, nan), (ILL,)), ((inf, inf), (TRV,)), ((-inf, -inf), (DAC,)),
-    ((2.0, 1.0), (COM,)))
-MIXED = [decorated(*ends, decoration) for ends, decorations in PAIRS for decoration in decorations]
+    ((inf, -inf), DECORATIONS), ((nan, 1.0), (TRV,)), ((1.0, nan), (ILL,)), ((inf, inf), (TRV,)),
+    ((-inf, -inf), (DAC,)), ((2.0, 1.0), (COM,)))
+# The same for pairs of NaNs: NaI's, and others in one end or in both.
+SIGNED, NEXT, LEAST, GREATEST = request_lists.OTHER_NANS
+NAN_PAIRS = (
+    ((QUIET, QUIET), (*DECORATIONS, NO_DECORATION)), ((SIGNED, SIGNED), (ILL, TRV, NO_DECORATION)),
+    ((QUIET, NEXT), (ILL,)), ((LEAST, QUIET), (ILL,)), ((GREATEST, LEAST), (ILL,)))
+MIXED = [form.pack(*ends) + bytes([decoration])
+         for form, pairs in ((ENDS, PAIRS), (PATTERNS, NAN_PAIRS))
+         for ends, decorations in pairs for decoration in decorations]
 
 
 def taken_operands(way, all_operands):

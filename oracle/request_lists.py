@@ -9,11 +9,15 @@ import random
 from math import inf, ldexp, nextafter
 
 from muenglavot_reference.document import (
-    COM, DAC, DECORATIONS, DEF, EMPTY, ENDS, ENTIRE, ILL, NAI, NUMBER, ONE_OPERAND, OPERAND,
-    PATTERNS, QUIET, TRV)
+    COM, DAC, DECORATIONS, DEF, EMPTY, ENDS, ENTIRE, ILL, NAI, NAI_ENDS, NUMBER, ONE_OPERAND,
+    OPERAND, PATTERNS, QUIET, TRV)
+from muenglavot_reference.doubles import INFINITY, SIGN
 from recipes import LARGEST, NORMAL, TINY, Recipes, both_signs
 
-SIGNALLING = 0x7FF0000000000001
+# NaNs that are not NaI's: with the sign set, with another payload, the least and the greatest.
+OTHER_NANS = (QUIET | SIGN, QUIET + 1, INFINITY + 1, 2 ** 64 - 1)
+# How many bits of a payload lie below the one that makes a NaN quiet.
+PAYLOAD = 51
 # Numbers that no operation has: before the first, behind the last, and the greatest.
 NO_OPERATIONS = (0, len(NUMBER) + 1, len(NUMBER) + 2, 255)
 
@@ -35,7 +39,7 @@ class Generator:
     # The operations that they go round.
     numbers = tuple(NUMBER.values())
     # How many operands get ends that are rare, or that are refused.
-    odd_share = 0.09
+    odd_share = 0.11
 
     def __init__(self, kind, seed):
         self.rng = random.Random(seed)
@@ -47,32 +51,40 @@ class Generator:
     def pick(self, values):
         return values[int(self.random() * len(values))]
 
-    def nan(self):
-        """A NaN: either of the two plainest, or one with any sign and payload."""
+    def other_nan(self):
+        """A NaN that is not NaI's: a plain one, one bit off, or of any sign and payload."""
         way = self.bits(2)
         if way < 2:
-            return QUIET if way else SIGNALLING
-        sign, payload = self.bits(1) << 63, self.bits(52) or 1
-        return sign | 0x7FF0000000000000 | payload
+            return self.pick(OTHER_NANS)
+        if way == 2:
+            return QUIET ^ 1 << int(self.random() * PAYLOAD)
+        return self.pick((0, SIGN)) | INFINITY | (self.bits(PAYLOAD + 1) or 1)
+
+    def other_nans(self):
+        """Two NaNs of which one or both are not NaI's."""
+        a, b = self.other_nan(), self.other_nan()
+        return PATTERNS.pack(*self.pick(((QUIET, b), (a, QUIET), (a, a), (a, b))))
 
     def odd_ends(self, ends):
         """Ends that are rare, or that are refused."""
-        way = int(self.random() * 12)
+        way = int(self.random() * 15)
         a, b = ENDS.unpack(ends)
         if way < 3:
             return EMPTY
         if way < 4:
             return ENTIRE
         if way < 7:
-            return PATTERNS.pack(self.nan(), self.nan())
-        if way == 7:
+            return NAI_ENDS
+        if way < 10:
+            return self.other_nans()
+        if way == 10:
             return ENDS.pack(b, a)
-        if way == 8:
+        if way == 11:
             return ENDS.pack(0.0, abs(b)) if self.bits(1) else ENDS.pack(-abs(a), -0.0)
-        if way == 9:
+        if way == 12:
             return ENDS.pack(inf, inf) if self.bits(1) else ENDS.pack(-inf, -inf)
-        half = self.nan().to_bytes(8, 'big')
-        return ends[:8] + half if way == 10 else half + ends[8:]
+        half = self.pick((QUIET, self.other_nan())).to_bytes(8, 'big')
+        return ends[:8] + half if way == 13 else half + ends[8:]
 
     def decoration(self, ends):
         """A decoration that suits the ends, now and then one that does not."""

@@ -19,8 +19,8 @@ enum {
     FIRST_OPERATION = NEG, LAST_OPERATION = STRICT_PRECEDES,
 };
 
-/* Bytes of decorations. */
-enum { ILL = 0, TRV = 4, COM = 16 };
+/* Bytes of decorations, and one that is none's. */
+enum { ILL = 0, TRV = 4, NO_DECORATION = 5, COM = 16 };
 
 static unsigned passed, failed;
 
@@ -83,14 +83,19 @@ static void run(Call call, const uint8_t *input, size_t in_len, size_t out_len, 
     run_at(call, input, in_len, out_len, reply, after, what, 1);
 }
 
+static void pattern(uint8_t *bytes, uint64_t bits)
+{
+    for (int i = 0; i < 8; i++) {
+        bytes[i] = (uint8_t)(bits >> (56 - 8 * i));
+    }
+}
+
 static void number(uint8_t *bytes, double value)
 {
     uint64_t bits;
 
     memcpy(&bits, &value, sizeof bits);
-    for (int i = 0; i < 8; i++) {
-        bytes[i] = (uint8_t)(bits >> (56 - 8 * i));
-    }
+    pattern(bytes, bits);
 }
 
 static void interval(uint8_t *bytes, double lower, double upper)
@@ -393,6 +398,95 @@ static void codecs(void)
     run(muenglavot_decorated_le_to_be, little, 17, 17, refusal(6, 1), NULL, "codec Com");
 }
 
+/* Holds the bare calls to refuse ends, in either place, with 5. */
+static void bare_refusals(const uint8_t *ends, const char *what)
+{
+    uint8_t request[MUENGLAVOT_BARE_REQUEST], little[MUENGLAVOT_DECORATED];
+
+    request[0] = ADD;
+    memcpy(request + 1, ends, MUENGLAVOT_BARE);
+    interval(request + 17, 1, 2);
+    run(muenglavot_request_bare, request, sizeof request, MUENGLAVOT_BARE, refusal(5, 1), NULL, what);
+    run(muenglavot_request_bare_exact, request, sizeof request, MUENGLAVOT_BARE_EXACT, refusal(5, 1), NULL, what);
+    interval(request + 1, 1, 2);
+    memcpy(request + 17, ends, MUENGLAVOT_BARE);
+    run(muenglavot_request_bare, request, sizeof request, MUENGLAVOT_BARE, refusal(5, 2), NULL, what);
+    run(muenglavot_request_bare_exact, request, sizeof request, MUENGLAVOT_BARE_EXACT, refusal(5, 2), NULL, what);
+    reversed(little, ends);
+    run(muenglavot_bare_be_to_le, ends, 16, 16, refusal(5, 1), NULL, what);
+    run(muenglavot_bare_le_to_be, little, 16, 16, refusal(5, 1), NULL, what);
+}
+
+/* Holds the decorated calls to refuse an operand, in either place and beside NaI, with a number. */
+static void decorated_refusals(const uint8_t *bad, uint32_t kind, const char *what)
+{
+    const double nan = __builtin_nan("");
+    uint8_t request[MUENGLAVOT_DECORATED_REQUEST], little[MUENGLAVOT_DECORATED];
+
+    request[0] = ADD;
+    memcpy(request + 1, bad, MUENGLAVOT_DECORATED);
+    decorated(request + 18, nan, nan, ILL);
+    run(muenglavot_request_decorated, request, sizeof request, MUENGLAVOT_DECORATED, refusal(kind, 1), NULL, what);
+    decorated(request + 18, 1, 2, COM);
+    run(muenglavot_request_decorated, request, sizeof request, MUENGLAVOT_DECORATED, refusal(kind, 1), NULL, what);
+    decorated(request + 1, 1, 2, COM);
+    memcpy(request + 18, bad, MUENGLAVOT_DECORATED);
+    run(muenglavot_request_decorated, request, sizeof request, MUENGLAVOT_DECORATED, refusal(kind, 2), NULL, what);
+    decorated(request + 1, nan, nan, ILL);
+    run(muenglavot_request_decorated, request, sizeof request, MUENGLAVOT_DECORATED, refusal(kind, 2), NULL, what);
+    reversed(little, bad);
+    run(muenglavot_decorated_be_to_le, bad, 17, 17, refusal(kind, 1), NULL, what);
+    run(muenglavot_decorated_le_to_be, little, 17, 17, refusal(kind, 1), NULL, what);
+}
+
+/* Ends of which one or both are NaNs, as patterns. */
+typedef struct {
+    const char *what;
+    uint64_t lower, upper;
+} Nans;
+
+/* NaI has one spelling: its bytes come back, and any other NaN in either end is refused with 5, before 6 and after 4. */
+static void one_spelling(void)
+{
+    const uint64_t one = 0x3FF0000000000000, quiet = 0x7FF8000000000000, payload = 0x7FF8000000000001, sign = 0xFFF8000000000000,
+                   least = 0x7FF0000000000001;
+    const Nans others[] = {
+        {"another payload", payload, payload},
+        {"another payload below", payload, quiet},
+        {"another payload above", quiet, payload},
+        {"sign set", sign, sign},
+        {"sign set below", sign, quiet},
+        {"sign set above", quiet, sign},
+        {"the least NaN", least, least},
+        {"a NaN below only", quiet, one},
+        {"a NaN above only", one, quiet},
+        {"another NaN below only", sign, one},
+        {"another NaN above only", one, sign},
+    };
+    uint8_t big[MUENGLAVOT_DECORATED], little[MUENGLAVOT_DECORATED];
+
+    pattern(big, quiet);
+    pattern(big + 8, quiet);
+    big[16] = TRV;
+    bare_refusals(big, "NaI's ends, bare");
+    decorated_refusals(big, 6, "NaI's ends without Ill");
+    big[16] = ILL;
+    reversed(little, big);
+    run(muenglavot_decorated_be_to_le, big, 17, 17, 0, little, "NaI to little");
+    run(muenglavot_decorated_le_to_be, little, 17, 17, 0, big, "NaI to big");
+    for (size_t i = 0; i < sizeof others / sizeof others[0]; i++) {
+        pattern(big, others[i].lower);
+        pattern(big + 8, others[i].upper);
+        bare_refusals(big, others[i].what);
+        big[16] = ILL;
+        decorated_refusals(big, 5, others[i].what);
+        big[16] = TRV;
+        decorated_refusals(big, 5, others[i].what);
+        big[16] = NO_DECORATION;
+        decorated_refusals(big, 4, others[i].what);
+    }
+}
+
 int main(void)
 {
     bare_requests();
@@ -402,6 +496,7 @@ int main(void)
     comparison_answers();
     comparison_operands();
     codecs();
+    one_spelling();
     printf("%u passed, %u failed\n", passed, failed);
     return failed != 0;
 }

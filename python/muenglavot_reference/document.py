@@ -27,11 +27,12 @@ ANSWER['exact'] = ANSWER['bare'] + 2
 
 ENDS = Struct('>dd')
 PATTERNS = Struct('>QQ')
-# The NaN that is written for each end of NaI.
+# The NaN that both ends of NaI have. Any other is refused.
 QUIET = 0x7FF8000000000000
 EMPTY = ENDS.pack(inf, -inf)
 ENTIRE = ENDS.pack(-inf, inf)
-NAI = PATTERNS.pack(QUIET, QUIET) + bytes([ILL])
+NAI_ENDS = PATTERNS.pack(QUIET, QUIET)
+NAI = NAI_ENDS + bytes([ILL])
 
 # The numbers that end a run of the bench program, and how many requests it answers.
 TOO_SHORT, TOO_MANY = 1, 7
@@ -77,7 +78,7 @@ def operand_refusal(operand, by_value=False):
     decoration = operand[16]
     if decoration not in DECORATIONS:
         return 4
-    is_nai = a != a and b != b
+    is_nai = operand.startswith(NAI_ENDS)
     if not (is_proper or is_empty or is_nai):
         return 5
     against = (is_proper and decoration == ILL

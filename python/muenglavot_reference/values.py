@@ -59,12 +59,12 @@ class Function(NamedTuple):
 # Answers about one interval.
 
 def is_nai(x):
-    return x[16:] == bytes([ILL])
+    return x == NAI
 
 
 def handed_back(x):
-    """The same interval, with its zeros and NaI's ends as the bytes have them."""
-    return NAI if is_nai(x) else answers.write(answers.read(x)) + x[16:]
+    """The same interval, with its zeros as the bytes have them."""
+    return x if is_nai(x) else answers.write(answers.read(x)) + x[16:]
 
 
 def set_dec(x, decoration):

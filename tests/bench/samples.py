@@ -7,7 +7,9 @@ ROOT = Path(__file__).resolve().parent.parent.parent
 sys.path.insert(0, str(ROOT / 'python'))
 
 from muenglavot_reference import answers, document
-from muenglavot_reference.document import COM, DAC, DEF, EMPTY, ILL, MOST, NAI, NUMBER, TRV, decorated
+from muenglavot_reference.document import (
+    COM, DAC, DEF, EMPTY, ILL, MOST, NAI, NAI_ENDS, NUMBER, PATTERNS, QUIET, TRV, decorated)
+from muenglavot_reference.doubles import SIGN
 
 REQUEST = document.REQUEST['decorated']
 REPLY = document.ANSWER['decorated']
@@ -17,10 +19,14 @@ FIRST = decorated(1, 2, COM)
 SECOND = decorated(-3, 4, COM)
 OPERANDS = (FIRST, SECOND, NAI, EMPTY + bytes([TRV]))
 
+# Two NaNs of which one or both are not NaI's.
+OTHER_NANS = tuple(PATTERNS.pack(*ends) for ends in (
+    (QUIET + 1, QUIET + 1), (QUIET | SIGN, QUIET | SIGN), (QUIET, QUIET | SIGN), (QUIET + 1, QUIET)))
+
 # Operands that are refused, each in another way.
 BAD_OPERANDS = (
     decorated(1, 2, NO_DECORATION),
-    decorated(nan, nan, NO_DECORATION),
+    NAI_ENDS + bytes([NO_DECORATION]),
     decorated(2, 1, COM),
     decorated(0.0, 1, COM),
     decorated(-1, -0.0, COM),
@@ -29,7 +35,8 @@ BAD_OPERANDS = (
     decorated(1, 2, ILL),
     decorated(1, inf, COM),
     decorated(inf, -inf, DEF),
-    decorated(nan, nan, TRV),
+    NAI_ENDS + bytes([TRV]),
+    *(ends + bytes([decoration]) for ends in OTHER_NANS for decoration in (ILL, TRV, NO_DECORATION)),
 )
 
 TOO_SHORT = document.refused('decorated', document.TOO_SHORT, 0)

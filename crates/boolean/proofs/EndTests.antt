@@ -12,7 +12,7 @@ use Rattle.meaning.specs.Pairs.{Pair, Proper, EmptyPair, Bare, setOf}
 use Rattle.meaning.specs.Comparisons.{EachSome, EachEach}
 use Rattle.meaning.proofs.SetLaws.{some-member}
 use Rattle.end_pairs.specs.Keys.{keyOf}
-use Rattle.end_pairs.proofs.KindLaws.{proper-not-empty}
+use Rattle.meaning.proofs.KindLaws.{proper-not-empty}
 use Rattle.end_pairs.proofs.Shapes.{LowerShape, lowerFinite, lowerInfinite, UpperShape, upperFinite, upperInfinite, Shape, shapeEmpty, shapeSpan, shape}
 use Rattle.comparison_laws.specs.Ends.{Ascending}
 use Rattle.comparison_laws.proofs.AscendingLaws.{weak, strict}

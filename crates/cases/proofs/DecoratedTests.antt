@@ -11,7 +11,7 @@ use Rattle.meaning.specs.Decorations.{Com, decorationByte, lowerOf, settled, Al
 use Rattle.meaning.specs.Sets.{Set}
 use Rattle.meaning.specs.Statement.{DecPair, given, Agrees, Decorated₂, right₂, decoratedGood, rightInterval}
 use Rattle.meaning.proofs.PairLaws.{split}
-use Rattle.uniqueness.proofs.PairLaws.{proper-not-empty, proper-not-nans}
+use Rattle.meaning.proofs.KindLaws.{proper-not-empty, bare-not-nans}
 use Rattle.uniqueness.proofs.DecorationOrder.{byte-injective}
 use Rattle.theorem3.specs.Answer.{Arithmetic, adding, subtracting, multiplying, dividing, binary}
 use Rattle.cases.proofs.Tests.{properTest, proper-tested}
@@ -28,10 +28,10 @@ sound-tested F x t =
       record {
         notIll = λ p e. let l = ltb→lt 0 (decorationByte (x .decoration)) (b .1) in omega (arith, ap decorationByte e);
         bounded = λ p e. bounded-tested F (x .pair) (b .0);
-        emptyTrv = λ k. absurd (proper-not-empty F (x .pair) h k);
-        nansIll = λ k. absurd (proper-not-nans F (x .pair) h k);
+        emptyTrv = λ k. absurd (proper-not-empty F h k);
+        nansIll = λ k. absurd (bare-not-nans F (inl h) k);
       },
-      proper-not-nans F (x .pair) h,
+      bare-not-nans F (inl h),
     )
 
 -- The operations that allow any decoration.

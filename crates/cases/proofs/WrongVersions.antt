@@ -15,7 +15,7 @@ use Rattle.meaning.specs.Decorations.{Decoration, Trv}
 use Rattle.meaning.specs.Statement.{Outcome, refused, given, sound, wrong, bareGood, right₁, right₂, first₁, first₂, second₂, JudgedDecorated, decoratedGood, DecPair, RightDecorated, rightNaI, rightInterval, HullOf, Bare₁, Bare₂, Decorated₁, Decorated₂}
 use Rattle.meaning.specs.Overlap.{State, finishedBy, meets, BareOverlap, intervalState, DecOverlap}
 use Rattle.meaning.proofs.Unique.{bare₁-once, bare₂-once, hull-once}
-use Rattle.uniqueness.proofs.PairLaws.{proper-not-nans, bare-not-nans}
+use Rattle.meaning.proofs.KindLaws.{bare-not-nans}
 use Rattle.uniqueness.proofs.VerdictLaws.{judged-decorated-once}
 use Rattle.uniqueness.proofs.OverlapLaws.{bareOverlap-once, decOverlap-once}
 use Rattle.cases.specs.Rows.{RightState}
@@ -66,7 +66,7 @@ sound-trivially {x} h =
       notIll = λ p e. let z : _≡_ {A = ℕ} 0 1 = cc in omega arith;
       bounded = λ p e. let z : _≡_ {A = ℕ} 0 1 = cc in absurd (omega arith);
       emptyTrv = λ k. refl;
-      nansIll = λ k. absurd (bare-not-nans binary64 x h k);
+      nansIll = λ k. absurd (bare-not-nans binary64 h k);
     })
 
 -- The interval of a right decorated answer.
@@ -92,7 +92,7 @@ no-wrong-decorated₁ op f bad all = let e = example₁ op in go e (bad (trivial
   where
     go : (e : Example₁ op) {o : Outcome DecPair} → WrongDec (trivially (e .x)) o → Decorated₁ binary64 op (trivially (e .x)) o → ⊥
     go e b (first₁ j) = wrong-not-sound (trivially (e .x)) j (sound-trivially (inl (e .proper)))
-    go e b (right₁ j r) = not-wrong-decorated (e .telling) (e .right) (proper-not-nans binary64 (e .x) (e .proper)) r b
+    go e b (right₁ j r) = not-wrong-decorated (e .telling) (e .right) (bare-not-nans binary64 (inl (e .proper))) r b
 
 pub no-wrong-decorated₂ : (op : Operation) (f : DecPair → DecPair → Outcome DecPair) → ((x y : DecPair) → WrongDec x (f x y))
     → ((x y : DecPair) → Decorated₂ binary64 op x y (f x y)) → ⊥
@@ -104,7 +104,7 @@ no-wrong-decorated₂ op f bad all =
     go e b (second₂ j k) = wrong-not-sound (trivially (e .y)) k (sound-trivially (inl (e .properToo)))
     go e b (right₂ j k r) =
         not-wrong-decorated (e .telling) (e .right)
-        (⊎-elim (proper-not-nans binary64 (e .x) (e .proper)) (proper-not-nans binary64 (e .y) (e .properToo))) r b
+        (⊎-elim (bare-not-nans binary64 (inl (e .proper))) (bare-not-nans binary64 (inl (e .properToo)))) r b
 
 -- Overlap: a wrong version refuses every call, or answers one state always.
 finished : RightState (pair one two) (only two) finishedBy 10
@@ -144,7 +144,7 @@ decorated-state : {x y : Pair} {s : State} {n : ℕ} → Proper binary64 x → P
     → DecOverlap binary64 (trivially x) (trivially y) (given n)
 decorated-state {x} {y} {s} p q right =
     right₂ (sound-trivially (inl p)) (sound-trivially (inl q))
-    (intervalState (⊎-elim (proper-not-nans binary64 x p) (proper-not-nans binary64 y q))
+    (intervalState (⊎-elim (bare-not-nans binary64 (inl p)) (bare-not-nans binary64 (inl q)))
     (record { state = s; holds = right .holds; is = right .numbered }))
 
 finished-trivially : DecOverlap binary64 (trivially (pair one two)) (trivially (only two)) (given 10)

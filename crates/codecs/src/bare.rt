@@ -1,7 +1,8 @@
 // Bare intervals from one byte order into the other.
 ghost use Rattle.patterns.specs.Format.{binary64};
 ghost use Rattle.meaning.specs.Bytes.{bigEndian, littleEndian};
-ghost use Rattle.meaning.specs.Requests.{BareCodec};
+ghost use Rattle.meaning.specs.Forms.{bareForm};
+ghost use Rattle.meaning.specs.Requests.{Codec};
 ghost use Rattle.ends_in_bytes.specs.ByteOrderMeaning.{orderOf};
 use ends_in_bytes::ByteOrder;
 use interval::Answer;
@@ -11,7 +12,7 @@ use lent_intervals::write_bare;
 use refusals::Refusal;
 
 fn recode(input: &[u8], output: &mut [u8], from: ByteOrder, to: ByteOrder) -> Refusal
-    ensures { λ r. ⌜ BareCodec binary64 (orderOf from) (orderOf to) (now (input .entry)) (now (output .entry)) r (now (output .exit)) ⌝ }
+    ensures { λ r. ⌜ Codec binary64 bareForm (orderOf from) (orderOf to) (now (input .entry)) (now (output .entry)) r (now (output .exit)) ⌝ }
 {
     if input.len() != BARE {
         return Refusal::WRONG_LENGTH;
@@ -30,14 +31,14 @@ fn recode(input: &[u8], output: &mut [u8], from: ByteOrder, to: ByteOrder) -> Re
 
 // Reads a bare interval in big endian and writes it in little endian.
 pub fn bare_be_to_le(input: &[u8], output: &mut [u8]) -> Refusal
-    ensures { λ r. ⌜ BareCodec binary64 bigEndian littleEndian (now (input .entry)) (now (output .entry)) r (now (output .exit)) ⌝ }
+    ensures { λ r. ⌜ Codec binary64 bareForm bigEndian littleEndian (now (input .entry)) (now (output .entry)) r (now (output .exit)) ⌝ }
 {
     recode(input, output, ByteOrder::Big, ByteOrder::Little)
 }
 
 // Reads a bare interval in little endian and writes it in big endian.
 pub fn bare_le_to_be(input: &[u8], output: &mut [u8]) -> Refusal
-    ensures { λ r. ⌜ BareCodec binary64 littleEndian bigEndian (now (input .entry)) (now (output .entry)) r (now (output .exit)) ⌝ }
+    ensures { λ r. ⌜ Codec binary64 bareForm littleEndian bigEndian (now (input .entry)) (now (output .entry)) r (now (output .exit)) ⌝ }
 {
     recode(input, output, ByteOrder::Little, ByteOrder::Big)
 }

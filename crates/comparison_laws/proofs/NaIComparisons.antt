@@ -6,7 +6,7 @@ use Rattle.truth.proofs.AnswerLaws.{answers-iff}
 use Rattle.patterns.specs.Format.{Format}
 use Rattle.meaning.specs.Pairs.{Pair, Bare, NaNs, setOf}
 use Rattle.meaning.specs.Comparisons.{Comparison, Compares, PairsCompare}
-use Rattle.uniqueness.proofs.PairLaws.{bare-not-nans}
+use Rattle.meaning.proofs.KindLaws.{bare-not-nans}
 
 module _ (F : Format) (c : Comparison) {x y : Pair} where
   pub nai-compared : NaNs F x ⊎ NaNs F y → Answers (PairsCompare F c x y) false
@@ -16,4 +16,4 @@ module _ (F : Format) (c : Comparison) {x y : Pair} where
   intervals-compared n = answers-iff (λ h. record { notNaI = n; holds = h }) (λ h. h .holds)
 
   pub bares-compared : Bare F x × Bare F y → {t : Bool} → Answers (Compares c (setOf F x) (setOf F y)) t → Answers (PairsCompare F c x y) t
-  bares-compared b = intervals-compared (⊎-elim (bare-not-nans F x (b .0)) (bare-not-nans F y (b .1)))
+  bares-compared b = intervals-compared (⊎-elim (bare-not-nans F (b .0)) (bare-not-nans F (b .1)))

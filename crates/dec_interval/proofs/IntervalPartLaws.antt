@@ -12,9 +12,9 @@ use Rattle.meaning.specs.Statement.{Verdict, sound, Outcome, refused, given, An
 use Rattle.meaning.specs.Bytes.{Tidied}
 use Rattle.truth.specs.Answers.{Answers, denied}
 use Rattle.truth.proofs.AnswerLaws.{answers-iff}
-use Rattle.uniqueness.proofs.ReadingLaws.{tidied-once}
+use Rattle.meaning.proofs.SpellingLaws.{tidied-once}
 use Rattle.end_pairs.specs.Zeros.{canonicalPair}
-use Rattle.end_pairs.proofs.KindLaws.{only-bare}
+use Rattle.meaning.proofs.KindLaws.{only-bare}
 use Rattle.end_pairs.proofs.ZeroLaws.{canonical-set, tidied, tidied-trans}
 use Rattle.interval.specs.IntervalMeaning.{pairOf, outcome}
 use Rattle.interval.specs.Values.{LowerOf, UpperOf}

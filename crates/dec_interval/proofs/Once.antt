@@ -5,18 +5,8 @@ use Rattle.patterns.specs.Format.{Format}
 use Rattle.meaning.specs.Pairs.{Pair}
 use Rattle.meaning.specs.Decorations.{Decoration}
 use Rattle.meaning.specs.Statement.{DecPair}
-use Rattle.uniqueness.proofs.ReadingLaws.{tidied-once}
-use Rattle.dec_interval.specs.Values.{TidiedDec, tidiedNaI, tidiedInterval, SetDec, setNaI, setInterval, Part, PartOf, isPart, isMissing, DecEndOf, nanEnd, partEnd}
-
-dec-pair : {z w : DecPair} → z .pair ≡ w .pair → z .decoration ≡ w .decoration → z ≡ w
-dec-pair p d = λ i. record { pair = p i; decoration = d i }
-
-pub tidiedDec-once : (F : Format) (x z w : DecPair) → TidiedDec F x z → TidiedDec F x w → z ≡ w
-tidiedDec-once F x z w (tidiedNaI n) (tidiedNaI m) = refl
-tidiedDec-once F x z w (tidiedNaI n) (tidiedInterval m t d) = absurd (m n)
-tidiedDec-once F x z w (tidiedInterval m t d) (tidiedNaI n) = absurd (m n)
-tidiedDec-once F x z w (tidiedInterval n s c) (tidiedInterval m t d) =
-    dec-pair (tidied-once F (x .pair) (z .pair) (w .pair) s t) (c ∙ sym d)
+use Rattle.meaning.proofs.SpellingLaws.{dec-pair, tidied-once}
+use Rattle.dec_interval.specs.Values.{SetDec, setNaI, setInterval, Part, PartOf, isPart, isMissing, DecEndOf, nanEnd, partEnd}
 
 pub setDec-once : (F : Format) (d : Decoration) (x : Pair) (z w : DecPair) → SetDec F d x z → SetDec F d x w → z ≡ w
 setDec-once F d x z w (setNaI e) (setNaI f) = refl

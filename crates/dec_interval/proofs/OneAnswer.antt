@@ -5,7 +5,9 @@ use Rattle.meaning.specs.Sets.{Set, empty, span, unbounded}
 use Rattle.meaning.specs.Pairs.{NaNs}
 use Rattle.meaning.specs.Decorations.{Decoration, Com, Common, Point}
 use Rattle.meaning.specs.Statement.{JudgedBare, JudgedDecorated}
+use Rattle.meaning.specs.Bytes.{TidiedDec}
 use Rattle.meaning.proofs.Unique.{one-answer₁, judged-bare-once}
+use Rattle.meaning.proofs.SpellingLaws.{tidiedDec-once}
 use Rattle.truth.specs.Answers.{Answers}
 use Rattle.truth.proofs.AnswerLaws.{answers-once}
 use Rattle.uniqueness.proofs.VerdictLaws.{judged-decorated-once}
@@ -15,9 +17,9 @@ use Rattle.interval.proofs.Codes.{boolAnswer-known, endAnswer-known}
 use Rattle.interval.proofs.Once.{lower-once, upper-once}
 use Rattle.interval.proofs.OneAnswer.{Once}
 use Rattle.dec_interval.specs.DecIntervalMeaning.{decOutcome, decorationOutcome, partOutcome}
-use Rattle.dec_interval.specs.Values.{TidiedDec, SetDec, PartOf, DecEndOf, OfPart}
+use Rattle.dec_interval.specs.Values.{SetDec, PartOf, DecEndOf, OfPart}
 use Rattle.dec_interval.proofs.Codes.{decAnswer-known, decorationAnswer-known, partAnswer-known}
-use Rattle.dec_interval.proofs.Once.{tidiedDec-once, setDec-once, part-once, decEnd-once}
+use Rattle.dec_interval.proofs.Once.{setDec-once, part-once, decEnd-once}
 
 module _ (F : Format) where
   pub try-from-parts-once : Once decOutcome (JudgedDecorated F) (TidiedDec F)

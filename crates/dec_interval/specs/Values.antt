@@ -8,11 +8,6 @@ use Rattle.meaning.specs.Decorations.{Decoration, Ill, settled}
 use Rattle.meaning.specs.Statement.{DecPair, naI}
 use Rattle.meaning.specs.Bytes.{Tidied}
 
--- "Every interval handed back has its zeros, and NaI its ends, as the bytes have them."
-pub data TidiedDec (F : Format) (x : DecPair) : DecPair → Type 0 where
-  tidiedNaI : NaNs F (x .pair) → TidiedDec F x (naI F)
-  tidiedInterval : {z : DecPair} → (NaNs F (x .pair) → ⊥) → Tidied F (x .pair) (z .pair) → z .decoration ≡ x .decoration → TidiedDec F x z
-
 -- set_dec: "Ill gives NaI; otherwise EMPTY gets Trv; Com with an infinite end becomes Dac; else unchanged."
 pub data SetDec (F : Format) (d : Decoration) (x : Pair) : DecPair → Type 0 where
   setNaI : d ≡ Ill → SetDec F d x (naI F)

@@ -2,11 +2,12 @@
 ghost use Rattle.patterns.specs.Format.{binary64};
 ghost use Rattle.meaning.specs.Pairs.{Bare};
 ghost use Rattle.meaning.specs.Statement.{Ends};
+ghost use Rattle.meaning.specs.Bytes.{TidiedDec};
 ghost use Rattle.end_pairs.specs.EndPairMeaning.{pairOf};
 ghost use Rattle.interval.specs.IntervalMeaning as interval;
 ghost use Rattle.decorations.specs.DecorationMeaning.{decorationOf};
 ghost use Rattle.dec_interval.specs.DecIntervalMeaning.{decPairOf};
-ghost use Rattle.dec_interval.specs.Values.{TidiedDec, SetDec};
+ghost use Rattle.dec_interval.specs.Values.{SetDec};
 use crate::types::DecInterval;
 use decorations::Decoration;
 use decorations::ILL_BYTE;

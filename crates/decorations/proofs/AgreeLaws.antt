@@ -3,7 +3,6 @@ use mathlib.Core.Bool.{Bool, not}
 use mathlib.Core.Path.{_≡_, refl, ap, subst, subst⁻¹}
 use mathlib.Core.Logic.{inl, inr}
 use Prim.Native.Nat.{ℕ}
-use native.Mathlib.Omega.{arith}
 use lib.Dec.{T, T-not, eqb, eqb-refl}
 use Rattle.patterns.specs.Format.{Format}
 use Rattle.patterns.specs.Value.{Finite}
@@ -14,7 +13,7 @@ use Rattle.meaning.proofs.PairLaws.{infinity-not-finite}
 use Rattle.truth.specs.Answers.{Answers}
 use Rattle.truth.proofs.AnswerLaws.{answers-iff}
 use Rattle.end_pairs.specs.Zeros.{canonicalPair}
-use Rattle.end_pairs.proofs.KindLaws.{proper-not-empty, bare-not-nans}
+use Rattle.meaning.proofs.KindLaws.{finite-not-nan, nans-lower, proper-not-empty, bare-not-nans}
 use Rattle.end_pairs.proofs.ZeroLaws.{canonical-proper, canonical-empty, finite-lower, finite-upper}
 
 -- Decorations with different bytes differ.
@@ -67,7 +66,7 @@ module _ (F : Format) {p : Pair} where
   bounded-proper : Ends F p → Finite F (p .lower) × Finite F (p .upper) → Proper F p
   bounded-proper (inl (inl h)) f = h
   bounded-proper (inl (inr e)) f = absurd (infinity-not-finite F (subst (Finite F) (e .lowerIs) (f .0)))
-  bounded-proper (inr n) f = absurd (omega (arith, n .lowerIs .beyond, f .0 .finite))
+  bounded-proper (inr n) f = absurd (finite-not-nan F (f .0) (nans-lower F n))
 
   allows : Ends F p → (d : Decoration) → Asks F p d → Agrees F (record { pair = p; decoration = d })
   allows ends Ill n = agrees-nans F n

@@ -10,7 +10,7 @@ use Rattle.patterns.specs.Value.{magnitude, Finite}
 use Rattle.patterns.proofs.ValueLaws.{le-or-lt}
 use Rattle.patterns.proofs.SignLaws.{infinity-below}
 use Rattle.meaning.specs.Fraction.{_≼_}
-use Rattle.meaning.specs.Pairs.{Pair, worth, minusInfinity, NaN, Proper}
+use Rattle.meaning.specs.Pairs.{Pair, worth, minusInfinity, Proper}
 use Rattle.meaning.proofs.FractionLaws.{lt-not-le}
 use Rattle.truth.specs.Answers.{Answers}
 use Rattle.end_pairs.specs.Keys.{keyOf}
@@ -21,10 +21,6 @@ module _ (F : Format) {b : ℕ} (pattern : b < 2 * signBit F) where
   pub answers-finite : Answers (Finite F b) (ltb (magnitude F b) (infinity F))
   answers-finite =
       answers-lt (magnitude F b) (infinity F) (λ h. record { pattern = pattern; finite = h }) (λ h f. omega (arith, f .finite))
-
-  pub answers-nan : Answers (NaN F b) (ltb (infinity F) (magnitude F b))
-  answers-nan =
-      answers-lt (infinity F) (magnitude F b) (λ h. record { pattern = pattern; beyond = h }) (λ h n. omega (arith, n .beyond))
 
 pub lower-pattern : (F : Format) {a : ℕ} → Finite F a ⊎ (a ≡ minusInfinity F) → a < 2 * signBit F
 unfolding minusInfinity

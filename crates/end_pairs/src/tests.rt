@@ -3,7 +3,7 @@ ghost use mathlib.Core.Logic.{_⊎_};
 ghost use mathlib.Core.Path.{_≡_};
 ghost use Rattle.patterns.specs.Format.{binary64, infinity};
 ghost use Rattle.patterns.specs.Value.{Finite};
-ghost use Rattle.meaning.specs.Pairs.{NaN, Proper, EmptyPair, Bare, NaNs, minusInfinity};
+ghost use Rattle.meaning.specs.Pairs.{Proper, EmptyPair, Bare, NaNs, minusInfinity};
 ghost use Rattle.meaning.specs.Statement.{Ends};
 ghost use Rattle.truth.specs.Answers.{Answers};
 ghost use Rattle.end_pairs.specs.EndPairMeaning.{pairOf};
@@ -11,6 +11,7 @@ use crate::order::less_or_equal;
 use crate::types::EndPair;
 use crate::types::INFINITY;
 use crate::types::MINUS_INFINITY;
+use crate::types::QUIET_NAN;
 use crate::types::SIGN;
 
 // Whether a pattern is a finite number's.
@@ -18,13 +19,6 @@ pub fn is_finite(b: u64) -> bool
     ensures { λ r. ⌜ Answers (Finite binary64 b) r ⌝ }
 {
     b % SIGN < INFINITY
-}
-
-// Whether a pattern is no number's and no infinity's.
-fn is_nan(b: u64) -> bool
-    ensures { λ r. ⌜ Answers (NaN binary64 b) r ⌝ }
-{
-    INFINITY < b % SIGN
 }
 
 // Whether a pattern may be the lower end of an interval with members.
@@ -69,7 +63,7 @@ pub fn is_bare(x: EndPair) -> bool
 pub fn are_nans(x: EndPair) -> bool
     ensures { λ r. ⌜ Answers (NaNs binary64 (pairOf x)) r ⌝ }
 {
-    is_nan(x.a) && is_nan(x.b)
+    x.a == QUIET_NAN && x.b == QUIET_NAN
 }
 
 // Whether the ends are those of an interval or of NaI.

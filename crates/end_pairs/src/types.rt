@@ -8,7 +8,7 @@ pub const PLUS_ZERO: u64 = 0;
 pub const INFINITY: u64 = 0x7ff0_0000_0000_0000;
 // The pattern of -inf.
 pub const MINUS_INFINITY: u64 = 0xfff0_0000_0000_0000;
-// The NaN that is written for each end of NaI.
+// The NaN that each end of NaI is.
 pub const QUIET_NAN: u64 = 0x7ff8_0000_0000_0000;
 
 // The bit patterns of a lower end `a` and an upper end `b`, which need not be those of an interval.

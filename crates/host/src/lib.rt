@@ -2,7 +2,8 @@
 // the requests and the codecs.
 ghost use Rattle.patterns.specs.Format.{binary64};
 ghost use Rattle.meaning.specs.Bytes.{bigEndian, littleEndian};
-ghost use Rattle.meaning.specs.Requests.{BareRequest, DecoratedRequest, BareCodec, DecoratedCodec};
+ghost use Rattle.meaning.specs.Forms.{bareForm, decoratedForm};
+ghost use Rattle.meaning.specs.Requests.{BareRequest, DecoratedRequest, Codec};
 ghost use Rattle.meaning.specs.ExactRequests.{ExactRequest};
 ghost use Rattle.request_laws.specs.Calls.{Packed};
 use lent_calls::packed;
@@ -34,7 +35,7 @@ pub extern "C" fn muenglavot_request_decorated(input: &[u8], output: &mut [u8]) 
 // One bare interval from big to little endian, 16 bytes each.
 #[no_mangle]
 pub extern "C" fn muenglavot_bare_be_to_le(input: &[u8], output: &mut [u8]) -> u32
-    ensures { λ r. ⌜ Packed (BareCodec binary64 bigEndian littleEndian) (now (input .entry)) (now (output .entry)) r (now (output .exit)) ⌝ }
+    ensures { λ r. ⌜ Packed (Codec binary64 bareForm bigEndian littleEndian) (now (input .entry)) (now (output .entry)) r (now (output .exit)) ⌝ }
 {
     packed(codecs::bare_be_to_le(input, output))
 }
@@ -42,7 +43,7 @@ pub extern "C" fn muenglavot_bare_be_to_le(input: &[u8], output: &mut [u8]) -> u
 // One bare interval from little to big endian, 16 bytes each.
 #[no_mangle]
 pub extern "C" fn muenglavot_bare_le_to_be(input: &[u8], output: &mut [u8]) -> u32
-    ensures { λ r. ⌜ Packed (BareCodec binary64 littleEndian bigEndian) (now (input .entry)) (now (output .entry)) r (now (output .exit)) ⌝ }
+    ensures { λ r. ⌜ Packed (Codec binary64 bareForm littleEndian bigEndian) (now (input .entry)) (now (output .entry)) r (now (output .exit)) ⌝ }
 {
     packed(codecs::bare_le_to_be(input, output))
 }
@@ -50,7 +51,7 @@ pub extern "C" fn muenglavot_bare_le_to_be(input: &[u8], output: &mut [u8]) -> u
 // One decorated interval from big to little endian, 17 bytes each.
 #[no_mangle]
 pub extern "C" fn muenglavot_decorated_be_to_le(input: &[u8], output: &mut [u8]) -> u32
-    ensures { λ r. ⌜ Packed (DecoratedCodec binary64 bigEndian littleEndian) (now (input .entry)) (now (output .entry)) r (now (output .exit)) ⌝ }
+    ensures { λ r. ⌜ Packed (Codec binary64 decoratedForm bigEndian littleEndian) (now (input .entry)) (now (output .entry)) r (now (output .exit)) ⌝ }
 {
     packed(codecs::decorated_be_to_le(input, output))
 }
@@ -58,7 +59,7 @@ pub extern "C" fn muenglavot_decorated_be_to_le(input: &[u8], output: &mut [u8])
 // One decorated interval from little to big endian, 17 bytes each.
 #[no_mangle]
 pub extern "C" fn muenglavot_decorated_le_to_be(input: &[u8], output: &mut [u8]) -> u32
-    ensures { λ r. ⌜ Packed (DecoratedCodec binary64 littleEndian bigEndian) (now (input .entry)) (now (output .entry)) r (now (output .exit)) ⌝ }
+    ensures { λ r. ⌜ Packed (Codec binary64 decoratedForm littleEndian bigEndian) (now (input .entry)) (now (output .entry)) r (now (output .exit)) ⌝ }
 {
     packed(codecs::decorated_le_to_be(input, output))
 }

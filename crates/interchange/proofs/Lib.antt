@@ -1,3 +1,4 @@
 -- Laws of interchange bytes.
 pub mod RoundTrip
+pub mod OneSpelling
 pub mod OneAnswer

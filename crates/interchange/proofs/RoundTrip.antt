@@ -1,156 +1,127 @@
--- Round trips: what is read and written back gives the same bytes, and what is written and read back the same value.
+-- Round trips, in either form and either byte order: bytes that are read and written again, and intervals that are written and read again.
 use mathlib.Core.Path.{_≡_, refl, sym, _∙_, ap, ap₂, subst, subst⁻¹}
 use mathlib.Core.List.{List, [], _∷_, _++_, append-nil}
-use mathlib.Core.Logic.{_⊎_, inl, inr}
-use Prim.Native.Nat.{ℕ, _-_, _*_, _^_, _<_, _≤_}
+use mathlib.Core.Logic.{inl, inr}
+use Prim.Native.Nat.{ℕ, _*_, _^_, _<_, _≤_}
 use native.Mathlib.Nat.{le-of-eq, lt-of-lt-of-le}
 use native.Mathlib.Omega.{arith}
 use lib.Dec.{lit≤}
-use lib.ListN.{length, getD}
-use lib.Pow.{pow-pos, pow-lt}
+use lib.ListN.{length}
 use lib.Seq.{getD-at, take-all, take-suc}
-use Rattle.patterns.specs.Format.{Format, binary64, infinity, signBit, quietNaN}
-use Rattle.patterns.proofs.SignLaws.{magnitude-positive}
-use Rattle.meaning.specs.Pairs.{Pair, NaN, NaNs, Bare, Canonical}
-use Rattle.meaning.specs.Decorations.{Decoration, Ill, decorationByte}
-use Rattle.meaning.specs.Statement.{sound, given, Answered₁, right₁, DecPair, naI, Agrees, JudgedDecorated}
-use Rattle.meaning.specs.Bytes.{ByteOrder, readPair, writePair, JudgedBytes, bytesGood, SaysDecoration, BytesEnds, canonicalEnds, nanEnds, JudgedDecBytes, decBytesGood, ReadDecorated, readNaI, readInterval, Tidied, writeDecorated}
-use Rattle.uniqueness.proofs.ReadingLaws.{tidied-once}
+use Rattle.patterns.specs.Format.{Format, binary64, signBit}
+use Rattle.meaning.specs.Pairs.{Pair, Bare, Canonical}
+use Rattle.meaning.specs.Decorations.{decorationByte}
+use Rattle.meaning.specs.Statement.{sound, given, right₁, DecPair, naI, Agrees}
+use Rattle.meaning.specs.Bytes.{ByteOrder, readPair, writePair, bytesGood, BytesEnds, canonicalEnds, nanEnds, JudgedDecBytes, decBytesGood, ReadDecorated, Tidied, TidiedDec, tidiedNaI, tidiedInterval}
+use Rattle.meaning.specs.Forms.{Form, bareForm, decoratedForm, sizeOf, Value, JudgedValue, ReadsAs, Reading, TidiedAs, write, BytesOf, endsOf}
+use Rattle.meaning.specs.Requests.{Recoded}
+use Rattle.meaning.proofs.KindLaws.{quiet-nan, nai-nans, bare-not-nans, only-bare, nans-spelt}
+use Rattle.meaning.proofs.SpellingLaws.{dec-pair, tidied-once, tidiedAs-once}
+use Rattle.meaning.proofs.Unique.{written-once}
+use Rattle.uniqueness.proofs.ReadingLaws.{read-ends, read-agrees, read-valid}
 use Rattle.end_pairs.specs.Zeros.{canonicalPair}
 use Rattle.end_pairs.proofs.TestLaws.{lower-pattern, upper-pattern}
-use Rattle.end_pairs.proofs.KindLaws.{bare-not-nans, only-bare}
 use Rattle.end_pairs.proofs.ZeroLaws.{tidied}
 use Rattle.decorations.proofs.AgreeLaws.{agrees-nans, canonical-agrees, sound-ends, sound-agrees}
-use Rattle.dec_interval.specs.Values.{TidiedDec, tidiedNaI, tidiedInterval}
-use Rattle.dec_interval.proofs.Once.{tidiedDec-once}
 use Rattle.ends_in_bytes.proofs.EightByteLaws.{length-pair}
 use Rattle.ends_in_bytes.proofs.DigitLaws.{Bytes, pair-read, pair-written}
-use Rattle.interchange.specs.Written.{WrittenBare, WrittenDec}
 
--- The NaN that is written is one.
-quiet-is : (F : Format) → NaN F (quietNaN F)
-unfolding quietNaN infinity signBit
-quiet-is F =
-    let half : 2 ^ (F .frac - 1) < 2 ^ F .frac = pow-lt (let fine = F .fine in omega arith) in
-    let small : quietNaN F < signBit F = omega arith in
-    record { pattern = omega arith; beyond = omega (arith, magnitude-positive F small, pow-pos (F .frac - 1)) }
+-- A string of bytes as long as an interval in a form is.
+pub record Long (f : Form) (bs : List ℕ) : Type 0 where
+  pub long : length bs ≡ sizeOf f
+  pub bytes : Bytes bs
 
-self-tidied : (F : Format) {p : Pair} → Canonical F p → Tidied F p p
-self-tidied F k = record { canonical = k; same = (λ x m. m, λ x m. m) }
+-- The bytes of what was read are those that were read.
+read-writes : (f : Form) (o : ByteOrder) {bs : List ℕ} (x : Value f) → Long f bs → ReadsAs f o bs x → bs ≡ write f o x
+read-writes bareForm o {bs} x l e =
+    sym (ap (writePair o) e ∙ pair-written o bs (le-of-eq (sym (l .long))) (l .bytes) ∙ take-all 16 bs (le-of-eq (l .long)))
+read-writes decoratedForm o {bs} x l r =
+    sym
+    (ap₂ (λ (s : List ℕ) (b : ℕ). s ++ (b ∷ [])) (ap (writePair o) (r .ends) ∙ pair-written o bs (let n = l .long in omega arith) (l .bytes)) (sym (r .byte .is))
+    ∙ sym (take-suc bs 16 0 (let n = l .long in omega arith)) ∙ take-all 17 bs (le-of-eq (l .long)))
 
-only-canonical : {F : Format} {p : Pair} → (NaNs F p → ⊥) → BytesEnds F p → Canonical F p
-only-canonical n (canonicalEnds k) = k
-only-canonical n (nanEnds m) = absurd (n m)
+module _ (F : Format) where
+  self-tidied : {p : Pair} → Canonical F p → Tidied F p p
+  self-tidied k = record { canonical = k; same = (λ x m. m, λ x m. m) }
 
--- A format whose patterns have eight bytes, and either order.
-module _ (F : Format) (eight : 2 * signBit F ≤ 256 ^ 8) (o : ByteOrder) where
-  lower-fits : {p : Pair} → Bare F p → p .lower < 256 ^ 8
-  lower-fits (inl h) = lt-of-lt-of-le (lower-pattern F (h .lowerEnd)) eight
-  lower-fits (inr e) = lt-of-lt-of-le (upper-pattern F (inr (e .lowerIs))) eight
+  dec-self-tidied : {x : DecPair} → BytesEnds F (x .pair) → Agrees F x → TidiedDec F x x
+  dec-self-tidied (canonicalEnds k) a = tidiedInterval (bare-not-nans F (k .bare)) (self-tidied k) refl
+  dec-self-tidied {x} (nanEnds n) a = subst⁻¹ (TidiedDec F x) (dec-pair (nans-spelt F n) (a .nansIll n)) (tidiedNaI n)
 
-  upper-fits : {p : Pair} → Bare F p → p .upper < 256 ^ 8
-  upper-fits (inl h) = lt-of-lt-of-le (upper-pattern F (h .upperEnd)) eight
-  upper-fits (inr e) = lt-of-lt-of-le (lower-pattern F (inr (e .upperIs))) eight
+  -- What is read is tidied already.
+  read-tidied : (f : Form) (o : ByteOrder) {bs : List ℕ} {x : Value f} → Reading F f o bs (given x) → TidiedAs F f x x
+  read-tidied bareForm o (right₁ (bytesGood k) e) = self-tidied (subst⁻¹ (Canonical F) e k)
+  read-tidied decoratedForm o (right₁ j r) = dec-self-tidied (read-ends F j r) (read-agrees F j r)
 
-  pub read-written : (bs : List ℕ) → length bs ≡ 16 → Bytes bs → {z : Pair} {w : List ℕ}
-      → Answered₁ (JudgedBytes F o) (λ bs z. z ≡ readPair o bs) bs (given z) → WrittenBare F o z w → w ≡ bs
-  read-written bs long all {z} (right₁ (bytesGood k) q) t =
-      t .written
-      ∙ ap (writePair o) (tidied-once F z (t .answer) z (t .right) (self-tidied F (subst⁻¹ (Canonical F) q k)) ∙ q)
-      ∙ pair-written o bs (le-of-eq (sym long)) all ∙ take-all 16 bs (le-of-eq long)
+  -- Accepted bytes are those of what they are read as: reading and writing again gives the same bytes.
+  pub read-bytes : (f : Form) (o : ByteOrder) {bs : List ℕ} {x : Value f} → Long f bs → Reading F f o bs (given x) → BytesOf F f o x bs
+  read-bytes f o {x = x} l (right₁ j r) = record { answer = x; right = read-tidied f o (right₁ j r); written = read-writes f o x l r }
 
-  pub written-read : {x : Pair} {bs : List ℕ} (t : WrittenBare F o x bs)
-      → Answered₁ (JudgedBytes F o) (λ bs z. z ≡ readPair o bs) bs (given (t .answer))
-  written-read {bs = bs} t = right₁ (bytesGood (subst⁻¹ (Canonical F) read canonical)) (sym read)
+  pub read-written : (f : Form) (o : ByteOrder) {bs w : List ℕ} {x : Value f} → Long f bs → Reading F f o bs (given x) → BytesOf F f o x w → w ≡ bs
+  read-written f o {bs} {w} {x} l a t = written-once (tidiedAs-once F f x) w bs t (read-bytes f o l a)
+
+-- A format whose patterns have eight bytes.
+module _ (F : Format) (eight : 2 * signBit F ≤ 256 ^ 8) where
+  record Fits (p : Pair) : Type 0 where
+    lower : p .lower < 256 ^ 8
+    upper : p .upper < 256 ^ 8
+
+  bare-fits : {p : Pair} → Bare F p → Fits p
+  bare-fits (inl h) =
+      record { lower = lt-of-lt-of-le (lower-pattern F (h .lowerEnd)) eight; upper = lt-of-lt-of-le (upper-pattern F (h .upperEnd)) eight }
+  bare-fits (inr e) =
+      record { lower = lt-of-lt-of-le (upper-pattern F (inr (e .lowerIs))) eight; upper = lt-of-lt-of-le (lower-pattern F (inr (e .upperIs))) eight }
+
+  nai-fits : Fits (naI F .pair)
+  nai-fits = let quiet = lt-of-lt-of-le (quiet-nan F .pattern) eight in record { lower = quiet; upper = quiet }
+
+  tidied-fits : (f : Form) (x z : Value f) → TidiedAs F f x z → Fits (endsOf f z)
+  tidied-fits bareForm x z t = bare-fits (t .canonical .bare)
+  tidied-fits decoratedForm x z (tidiedNaI n) = nai-fits
+  tidied-fits decoratedForm x z (tidiedInterval n t d) = bare-fits (t .canonical .bare)
+
+  -- What is written is read back.
+  reads-back : (f : Form) (o : ByteOrder) (z : Value f) → Fits (endsOf f z) → ReadsAs f o (write f o z) z
+  reads-back bareForm o z h = sym (ap (readPair o) (sym (append-nil (writePair o z))) ∙ pair-read o z [] (h .lower) (h .upper))
+  reads-back decoratedForm o z h =
+      let b = decorationByte (z .decoration) in
+      record {
+        ends = sym (pair-read o (z .pair) (b ∷ []) (h .lower) (h .upper));
+        byte = record { is = getD-at (writePair o (z .pair)) b [] 0 16 (length-pair o (z .pair)) };
+      }
+
+  pub bytes-read : (f : Form) (o : ByteOrder) (x : Value f) {bs : List ℕ} (t : BytesOf F f o x bs) → ReadsAs f o bs (t .answer)
+  bytes-read f o x t = subst⁻¹ (λ (bs : List ℕ). ReadsAs f o bs (t .answer)) (t .written) (reads-back f o (t .answer) (tidied-fits f x (t .answer) (t .right)))
+
+  -- An interval that agrees with its decoration does so when it is tidied.
+  tidied-agrees : {x z : DecPair} → JudgedValue F decoratedForm x sound → TidiedDec F x z → BytesEnds F (z .pair) × Agrees F z
+  tidied-agrees j (tidiedNaI n) = (nanEnds (nai-nans F), agrees-nans F (nai-nans F))
+  tidied-agrees {x} {z} j (tidiedInterval n t d) =
+      let bare = only-bare F (sound-ends j) n in
+      let same = tidied-once F (x .pair) (z .pair) (canonicalPair F (x .pair)) t (tidied F (x .pair) bare) in
+      (canonicalEnds (t .canonical), subst⁻¹ (λ (y : DecPair). Agrees F y) (dec-pair same d) (canonical-agrees F x bare (sound-agrees j)))
+
+  sound-bytes : {o : ByteOrder} {bs : List ℕ} {z : DecPair} → ReadDecorated o bs z → BytesEnds F (z .pair) × Agrees F z → JudgedDecBytes F o bs sound
+  sound-bytes {z = z} r (ends, agrees) =
+      decBytesGood (z .decoration) (r .byte) (subst (BytesEnds F) (r .ends) ends)
+      (subst (λ (y : DecPair). Agrees F y) (dec-pair (r .ends) refl) agrees)
+
+  -- The bytes of a valid interval are accepted, and read as the interval that was written.
+  pub written-read : (f : Form) (o : ByteOrder) (x : Value f) {bs : List ℕ} → JudgedValue F f x sound → (t : BytesOf F f o x bs) → Reading F f o bs (given (t .answer))
+  written-read bareForm o x j t =
+      let r = bytes-read bareForm o x t in right₁ (bytesGood (subst (Canonical F) r (t .right .canonical))) r
+  written-read decoratedForm o x j t = let r = bytes-read decoratedForm o x t in right₁ (sound-bytes r (tidied-agrees j (t .right))) r
+
+  -- What a codec makes of accepted bytes is turned back into them by the codec that goes back.
+  pub recoded-back : (f : Form) (from to : ByteOrder) {bs cs : List ℕ} → Long f bs → Recoded F f from to bs (given cs) → Recoded F f to from cs (given bs)
+  recoded-back f from to {bs} {cs} l (right₁ j w) =
+      let x = w .answer in
+      let accepted : Reading F f from bs (given x) = right₁ j (w .right) in
+      let t : BytesOf F f to x cs = record { answer = x; right = read-tidied F f from accepted; written = w .written } in
+      back (written-read f to x (read-valid F f from bs x j (w .right)) t)
     where
-      canonical : Canonical F (t .answer)
-      canonical = t .right .canonical
-
-      read : readPair o bs ≡ t .answer
-      read =
-          ap (readPair o) (t .written ∙ sym (append-nil (writePair o (t .answer))))
-          ∙ pair-read o (t .answer) [] (lower-fits (canonical .bare)) (upper-fits (canonical .bare))
-
-  -- The seventeenth byte is had back.
-  byte-written : (bs : List ℕ) (d : Decoration) → length bs ≡ 17 → Bytes bs → SaysDecoration bs d
-      → writeDecorated o (record { pair = readPair o bs; decoration = d }) ≡ bs
-  byte-written bs d long all s =
-      ap₂ (λ (l : List ℕ) (b : ℕ). l ++ (b ∷ [])) (pair-written o bs (omega arith) all) (sym (s .is))
-      ∙ sym (take-suc bs 16 0 (omega arith)) ∙ take-all 17 bs (le-of-eq long)
-
-  -- NaI comes back with the NaNs that are written, any other value as it was.
-  pub dec-read-written : (bs : List ℕ) → length bs ≡ 17 → Bytes bs → {z : DecPair} {w : List ℕ}
-      → Answered₁ (JudgedDecBytes F o) (ReadDecorated F o) bs (given z) → WrittenDec F o z w
-      → (NaNs F (readPair o bs) × (w ≡ writeDecorated o (naI F))) ⊎ (w ≡ bs)
-  dec-read-written bs long all (right₁ j (readNaI n)) t =
-      inl (
-        n,
-        t .written
-            ∙ ap (writeDecorated o)
-            (tidiedDec-once F (naI F) (t .answer) (naI F) (t .right) (tidiedNaI (record { lowerIs = quiet-is F; upperIs = quiet-is F }))),
-      )
-  dec-read-written bs long all {z} (right₁ (decBytesGood e r b a) (readInterval d s n)) t =
-      inr
-      (t .written
-      ∙ ap (writeDecorated o)
-      (tidiedDec-once F z (t .answer) z (t .right) (tidiedInterval n (self-tidied F (only-canonical n b)) refl))
-      ∙ byte-written bs d long all s)
-
-  -- The bytes of a decorated interval give its ends and its decoration back.
-  module _ (z : DecPair) {bs : List ℕ} (l : z .pair .lower < 256 ^ 8) (u : z .pair .upper < 256 ^ 8) (e : bs ≡ writeDecorated o z) where
-    ends-back : readPair o bs ≡ z .pair
-    ends-back = ap (readPair o) e ∙ pair-read o (z .pair) (decorationByte (z .decoration) ∷ []) l u
-
-    says-back : SaysDecoration bs (z .decoration)
-    says-back =
-        record {
-          is =
-              ap (λ (s : List ℕ). getD s 16 0) e
-              ∙ getD-at (writePair o (z .pair)) (decorationByte (z .decoration)) [] 0 16 (length-pair o (z .pair));
-        }
-
-  back-nai : {bs : List ℕ} → bs ≡ writeDecorated o (naI F) → Answered₁ (JudgedDecBytes F o) (ReadDecorated F o) bs (given (naI F))
-  back-nai {bs} e = right₁ (decBytesGood Ill (says-back (naI F) fits fits e) (nanEnds nans) (agrees-nans F nans)) (readNaI nans)
-    where
-      fits : quietNaN F < 256 ^ 8
-      fits = lt-of-lt-of-le (quiet-is F .pattern) eight
-
-      nans : NaNs F (readPair o bs)
-      nans = subst⁻¹ (NaNs F) (ends-back (naI F) fits fits e) (record { lowerIs = quiet-is F; upperIs = quiet-is F })
-
-  back-interval : {x z : DecPair} {bs : List ℕ} → Bare F (x .pair) → Agrees F x → Tidied F (x .pair) (z .pair) → z .decoration ≡ x .decoration
-      → bs ≡ writeDecorated o z → Answered₁ (JudgedDecBytes F o) (ReadDecorated F o) bs (given z)
-  back-interval {x} {z} {bs} bare agrees t d e =
-      right₁ (decBytesGood (z .decoration) says (canonicalEnds (subst⁻¹ (Canonical F) ends (t .canonical))) agrees-back)
-      (subst (λ (p : Pair). ReadDecorated F o bs (record { pair = p; decoration = z .decoration })) ends
-      (readInterval (z .decoration) says (λ n. bare-not-nans F (t .canonical .bare) (subst (NaNs F) ends n))))
-    where
-      l : z .pair .lower < 256 ^ 8
-      l = lower-fits (t .canonical .bare)
-
-      u : z .pair .upper < 256 ^ 8
-      u = upper-fits (t .canonical .bare)
-
-      ends : readPair o bs ≡ z .pair
-      ends = ends-back z l u e
-
-      says : SaysDecoration bs (z .decoration)
-      says = says-back z l u e
-
-      same : readPair o bs ≡ canonicalPair F (x .pair)
-      same = ends ∙ tidied-once F (x .pair) (z .pair) (canonicalPair F (x .pair)) t (tidied F (x .pair) bare)
-
-      agrees-back : Agrees F (record { pair = readPair o bs; decoration = z .decoration })
-      agrees-back =
-          subst⁻¹ (λ (y : DecPair). Agrees F y) (λ i. record { pair = same i; decoration = d i }) (canonical-agrees F x bare agrees)
-
-  pub dec-written-read : {x : DecPair} {bs : List ℕ} → JudgedDecorated F x sound → (t : WrittenDec F o x bs)
-      → Answered₁ (JudgedDecBytes F o) (ReadDecorated F o) bs (given (t .answer))
-  dec-written-read {x} {bs} j t = go (t .right) (t .written)
-    where
-      go : {z : DecPair} → TidiedDec F x z → bs ≡ writeDecorated o z → Answered₁ (JudgedDecBytes F o) (ReadDecorated F o) bs (given z)
-      go (tidiedNaI n) e = back-nai e
-      go (tidiedInterval n s d) e = back-interval (only-bare F (sound-ends j) n) (sound-agrees j) s d e
+      back : Reading F f to cs (given (w .answer)) → Recoded F f to from cs (given bs)
+      back (right₁ k r) = right₁ k (record { answer = w .answer; right = r; written = read-writes f from (w .answer) l (w .right) })
 
 -- Patterns of binary64 have eight bytes.
 pub eight-binary64 : 2 * signBit binary64 ≤ 256 ^ 8

@@ -1,11 +1,10 @@
 // Bare intervals as sixteen bytes: lower end, upper end, eight bytes each.
-ghost use mathlib.Core.Path.{_≡_};
 ghost use Rattle.patterns.specs.Format.{binary64};
-ghost use Rattle.meaning.specs.Statement.{Answered₁, JudgedBare};
-ghost use Rattle.meaning.specs.Bytes.{bigEndian, littleEndian, readPair, JudgedBytes};
+ghost use Rattle.meaning.specs.Bytes.{bigEndian, littleEndian};
+ghost use Rattle.meaning.specs.Forms.{bareForm, Reading, Writing};
 ghost use Rattle.interval.specs.IntervalMeaning.{pairOf, outcome};
 ghost use Rattle.ends_in_bytes.specs.ByteOrderMeaning.{orderOf};
-ghost use Rattle.interchange.specs.Written.{AnsweredBy, WrittenBare, bytesAnswerOf};
+ghost use Rattle.interchange.specs.Written.{AnsweredBy, bytesAnswerOf};
 use end_pairs::canonical;
 use ends_in_bytes::ByteOrder;
 use interval::Answer;
@@ -25,14 +24,14 @@ pub struct BytesAnswer {
 
 // What bytes of either order stand for.
 fn read(bytes: [u8; BARE], order: ByteOrder) -> Answer
-    ensures { λ r. ⌜ Answered₁ (JudgedBytes binary64 (orderOf order)) (λ bs z. z ≡ readPair (orderOf order) bs) bytes (outcome r) ⌝ }
+    ensures { λ r. ⌜ Reading binary64 bareForm (orderOf order) bytes (outcome r) ⌝ }
 {
     read_bare(&bytes, 0, order)
 }
 
 // The bytes in either order.
 fn write(x: Interval, order: ByteOrder) -> BytesAnswer
-    ensures { λ r. ⌜ AnsweredBy bytesAnswerOf (JudgedBare binary64) (WrittenBare binary64 (orderOf order)) (pairOf x) r ⌝ }
+    ensures { λ r. ⌜ AnsweredBy bytesAnswerOf (Writing binary64 bareForm (orderOf order)) (pairOf x) r ⌝ }
 {
     match judge(x) {
         Verdict::Sound => {
@@ -52,28 +51,28 @@ fn write(x: Interval, order: ByteOrder) -> BytesAnswer
 
 // The interval that big-endian bytes stand for.
 pub fn try_from_be_bytes(bytes: [u8; 16]) -> Answer
-    ensures { λ r. ⌜ Answered₁ (JudgedBytes binary64 bigEndian) (λ bs z. z ≡ readPair bigEndian bs) bytes (outcome r) ⌝ }
+    ensures { λ r. ⌜ Reading binary64 bareForm bigEndian bytes (outcome r) ⌝ }
 {
     read(bytes, ByteOrder::Big)
 }
 
 // The interval that little-endian bytes stand for.
 pub fn try_from_le_bytes(bytes: [u8; 16]) -> Answer
-    ensures { λ r. ⌜ Answered₁ (JudgedBytes binary64 littleEndian) (λ bs z. z ≡ readPair littleEndian bs) bytes (outcome r) ⌝ }
+    ensures { λ r. ⌜ Reading binary64 bareForm littleEndian bytes (outcome r) ⌝ }
 {
     read(bytes, ByteOrder::Little)
 }
 
 // The big-endian bytes of an interval.
 pub fn to_be_bytes(x: Interval) -> BytesAnswer
-    ensures { λ r. ⌜ AnsweredBy bytesAnswerOf (JudgedBare binary64) (WrittenBare binary64 bigEndian) (pairOf x) r ⌝ }
+    ensures { λ r. ⌜ AnsweredBy bytesAnswerOf (Writing binary64 bareForm bigEndian) (pairOf x) r ⌝ }
 {
     write(x, ByteOrder::Big)
 }
 
 // The little-endian bytes of an interval.
 pub fn to_le_bytes(x: Interval) -> BytesAnswer
-    ensures { λ r. ⌜ AnsweredBy bytesAnswerOf (JudgedBare binary64) (WrittenBare binary64 littleEndian) (pairOf x) r ⌝ }
+    ensures { λ r. ⌜ AnsweredBy bytesAnswerOf (Writing binary64 bareForm littleEndian) (pairOf x) r ⌝ }
 {
     write(x, ByteOrder::Little)
 }

@@ -1,10 +1,10 @@
 // Decorated intervals as seventeen bytes: those of the bare interval, and one for the decoration.
 ghost use Rattle.patterns.specs.Format.{binary64};
-ghost use Rattle.meaning.specs.Statement.{Answered₁, JudgedDecorated};
-ghost use Rattle.meaning.specs.Bytes.{bigEndian, littleEndian, JudgedDecBytes, ReadDecorated};
+ghost use Rattle.meaning.specs.Bytes.{bigEndian, littleEndian};
+ghost use Rattle.meaning.specs.Forms.{decoratedForm, Reading, Writing};
 ghost use Rattle.dec_interval.specs.DecIntervalMeaning.{decPairOf, decOutcome};
 ghost use Rattle.ends_in_bytes.specs.ByteOrderMeaning.{orderOf};
-ghost use Rattle.interchange.specs.Written.{AnsweredBy, WrittenDec, decBytesAnswerOf};
+ghost use Rattle.interchange.specs.Written.{AnsweredBy, decBytesAnswerOf};
 use dec_interval::DecAnswer;
 use dec_interval::DecInterval;
 use dec_interval::canonical_dec;
@@ -24,14 +24,14 @@ pub struct DecBytesAnswer {
 
 // What bytes of either order stand for.
 fn read(bytes: [u8; DECORATED], order: ByteOrder) -> DecAnswer
-    ensures { λ r. ⌜ Answered₁ (JudgedDecBytes binary64 (orderOf order)) (ReadDecorated binary64 (orderOf order)) bytes (decOutcome r) ⌝ }
+    ensures { λ r. ⌜ Reading binary64 decoratedForm (orderOf order) bytes (decOutcome r) ⌝ }
 {
     read_decorated(&bytes, 0, order)
 }
 
 // The bytes in either order.
 fn write(x: DecInterval, order: ByteOrder) -> DecBytesAnswer
-    ensures { λ r. ⌜ AnsweredBy decBytesAnswerOf (JudgedDecorated binary64) (WrittenDec binary64 (orderOf order)) (decPairOf x) r ⌝ }
+    ensures { λ r. ⌜ AnsweredBy decBytesAnswerOf (Writing binary64 decoratedForm (orderOf order)) (decPairOf x) r ⌝ }
 {
     let d = x.d;
     match judge_dec(x.x.ends, d) {
@@ -52,28 +52,28 @@ fn write(x: DecInterval, order: ByteOrder) -> DecBytesAnswer
 
 // The decorated interval that big-endian bytes stand for.
 pub fn try_from_be_bytes(bytes: [u8; 17]) -> DecAnswer
-    ensures { λ r. ⌜ Answered₁ (JudgedDecBytes binary64 bigEndian) (ReadDecorated binary64 bigEndian) bytes (decOutcome r) ⌝ }
+    ensures { λ r. ⌜ Reading binary64 decoratedForm bigEndian bytes (decOutcome r) ⌝ }
 {
     read(bytes, ByteOrder::Big)
 }
 
 // The decorated interval that little-endian bytes stand for.
 pub fn try_from_le_bytes(bytes: [u8; 17]) -> DecAnswer
-    ensures { λ r. ⌜ Answered₁ (JudgedDecBytes binary64 littleEndian) (ReadDecorated binary64 littleEndian) bytes (decOutcome r) ⌝ }
+    ensures { λ r. ⌜ Reading binary64 decoratedForm littleEndian bytes (decOutcome r) ⌝ }
 {
     read(bytes, ByteOrder::Little)
 }
 
 // The big-endian bytes of a decorated interval.
 pub fn to_be_bytes(x: DecInterval) -> DecBytesAnswer
-    ensures { λ r. ⌜ AnsweredBy decBytesAnswerOf (JudgedDecorated binary64) (WrittenDec binary64 bigEndian) (decPairOf x) r ⌝ }
+    ensures { λ r. ⌜ AnsweredBy decBytesAnswerOf (Writing binary64 decoratedForm bigEndian) (decPairOf x) r ⌝ }
 {
     write(x, ByteOrder::Big)
 }
 
 // The little-endian bytes of a decorated interval.
 pub fn to_le_bytes(x: DecInterval) -> DecBytesAnswer
-    ensures { λ r. ⌜ AnsweredBy decBytesAnswerOf (JudgedDecorated binary64) (WrittenDec binary64 littleEndian) (decPairOf x) r ⌝ }
+    ensures { λ r. ⌜ AnsweredBy decBytesAnswerOf (Writing binary64 decoratedForm littleEndian) (decPairOf x) r ⌝ }
 {
     write(x, ByteOrder::Little)
 }

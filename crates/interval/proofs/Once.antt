@@ -3,7 +3,7 @@ use mathlib.Core.Path.{_≡_, sym, _∙_, ap}
 use Prim.Native.Nat.{ℕ}
 use Rattle.patterns.specs.Format.{Format}
 use Rattle.meaning.specs.Pairs.{Pair}
-use Rattle.uniqueness.proofs.ReadingLaws.{tidied-once}
+use Rattle.meaning.proofs.SpellingLaws.{tidied-once}
 use Rattle.interval.specs.Values.{LowerOf, UpperOf}
 
 pub lower-once : (F : Format) (x : Pair) (r s : ℕ) → LowerOf F x r → LowerOf F x s → r ≡ s

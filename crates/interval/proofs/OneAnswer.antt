@@ -10,7 +10,7 @@ use Rattle.meaning.specs.Bytes.{Tidied}
 use Rattle.meaning.proofs.Unique.{one-answer₁, judged-bare-once}
 use Rattle.truth.specs.Answers.{Answers}
 use Rattle.truth.proofs.AnswerLaws.{answers-once}
-use Rattle.uniqueness.proofs.ReadingLaws.{tidied-once}
+use Rattle.meaning.proofs.SpellingLaws.{tidied-once}
 use Rattle.classify.proofs.ClassOnce.{class-once}
 use Rattle.interval.specs.IntervalMeaning.{outcome, boolOutcome, endOutcome, classOutcome}
 use Rattle.interval.specs.Values.{LowerOf, UpperOf}

@@ -2,9 +2,8 @@
 use mathlib.Core.Path.{_≡_}
 use Prim.Native.Nat.{ℕ}
 use Rattle.patterns.specs.Format.{Format}
-use Rattle.meaning.specs.Pairs.{NaNs}
 use Rattle.meaning.specs.Decorations as meant
-use Rattle.meaning.specs.Statement.{Verdict, sound, wrong, DecPair, naI, Agrees}
+use Rattle.meaning.specs.Statement.{Verdict, sound, wrong, DecPair, Agrees}
 use Rattle.meaning.specs.Bytes.{BytesEnds}
 use Rattle.decorations.specs.DecorationMeaning.{decorationOf}
 use Rattle.decorations.specs.declared.types.Decoration.{Decoration}
@@ -20,8 +19,3 @@ pub data JudgedRead (F : Format) (x : DecPair) : Verdict → Type 0 where
   readFive : (BytesEnds F (x .pair) → ⊥) → JudgedRead F x (wrong 5)
   readSix : BytesEnds F (x .pair) → (Agrees F x → ⊥) → JudgedRead F x (wrong 6)
   readGood : BytesEnds F (x .pair) → Agrees F x → JudgedRead F x sound
-
--- NaI gets the ends that are written; any other value stays as it is.
-pub data ReadAs (F : Format) (x : DecPair) : DecPair → Type 0 where
-  asNaI : NaNs F (x .pair) → ReadAs F x (naI F)
-  asItself : (NaNs F (x .pair) → ⊥) → ReadAs F x x

@@ -3,8 +3,8 @@ ghost use mathlib.Core.Path.{_≡_};
 ghost use Prim.Native.Nat.{_+_, _≤_};
 ghost use lib.ListN.{length, take, drop};
 ghost use Rattle.patterns.specs.Format.{binary64};
-ghost use Rattle.meaning.specs.Statement.{Answered₁};
-ghost use Rattle.meaning.specs.Bytes.{readPair, JudgedBytes, JudgedDecBytes, ReadDecorated, writePair, writeDecorated};
+ghost use Rattle.meaning.specs.Bytes.{writePair, writeDecorated};
+ghost use Rattle.meaning.specs.Forms.{bareForm, decoratedForm, Reading};
 ghost use Rattle.interval.specs.IntervalMeaning.{pairOf, outcome};
 ghost use Rattle.dec_interval.specs.DecIntervalMeaning.{decPairOf, decOutcome};
 ghost use Rattle.ends_in_bytes.specs.ByteOrderMeaning.{orderOf};
@@ -34,7 +34,7 @@ const DECORATION_AT: usize = BARE;
 // What the sixteen bytes from a position on stand for.
 pub fn read_bare(s: &[u8], start: usize, order: ByteOrder) -> Answer
     requires { ⌜ start + 16 ≤ length (now s) ⌝ }
-    ensures { λ r. ⌜ Answered₁ (JudgedBytes binary64 (orderOf order)) (λ bs z. z ≡ readPair (orderOf order) bs) (take 16 (drop start (now (s .entry)))) (outcome r) ⌝ }
+    ensures { λ r. ⌜ Reading binary64 bareForm (orderOf order) (take 16 (drop start (now (s .entry)))) (outcome r) ⌝ }
 {
     let ends = read_ends(s, start, order);
     if is_canonical(ends) {
@@ -46,7 +46,7 @@ pub fn read_bare(s: &[u8], start: usize, order: ByteOrder) -> Answer
 // What the seventeen bytes from a position on stand for.
 pub fn read_decorated(s: &[u8], start: usize, order: ByteOrder) -> DecAnswer
     requires { ⌜ start + 17 ≤ length (now s) ⌝ }
-    ensures { λ r. ⌜ Answered₁ (JudgedDecBytes binary64 (orderOf order)) (ReadDecorated binary64 (orderOf order)) (take 17 (drop start (now (s .entry)))) (decOutcome r) ⌝ }
+    ensures { λ r. ⌜ Reading binary64 decoratedForm (orderOf order) (take 17 (drop start (now (s .entry)))) (decOutcome r) ⌝ }
 {
     match decoration_of(s[start + DECORATION_AT]) {
         ByteDecoration::Known(d) => answer_read(read_ends(s, start, order), d),

@@ -1,11 +1,11 @@
 // Seventeen bytes once they are taken apart: a byte for the decoration, and two ends.
+ghost use mathlib.Core.Path.{_≡_};
 ghost use Rattle.patterns.specs.Format.{binary64};
-ghost use Rattle.meaning.specs.Statement.{Answered₁};
-ghost use Rattle.meaning.specs.Bytes.{BytesEnds};
+ghost use Rattle.meaning.specs.Statement.{sound, Answered₁};
 ghost use Rattle.decorations.specs.DecorationMeaning.{decorationOf};
 ghost use Rattle.dec_interval.specs.DecIntervalMeaning.{decPairOf, decOutcome};
 ghost use Rattle.end_pairs.specs.EndPairMeaning.{pairOf};
-ghost use Rattle.lent_intervals.specs.Reading.{SaidBy, JudgedRead, ReadAs};
+ghost use Rattle.lent_intervals.specs.Reading.{SaidBy, JudgedRead};
 use crate::canonical::has_bytes_ends;
 use dec_interval::DecAnswer;
 use dec_interval::DecInterval;
@@ -42,10 +42,10 @@ pub fn decoration_of(b: u8) -> ByteDecoration
     }
 }
 
-// NaI with the NaNs that are written; any other value as it is.
+// The decorated interval with ends and a decoration that were judged already.
 fn read_as(ends: EndPair, d: Decoration) -> DecInterval
-    requires { ⌜ BytesEnds binary64 (pairOf ends) ⌝ }
-    ensures { λ r. ⌜ ReadAs binary64 (record { pair = pairOf ends; decoration = decorationOf d }) (decPairOf r) ⌝ }
+    requires { ⌜ JudgedRead binary64 (record { pair = pairOf ends; decoration = decorationOf d }) sound ⌝ }
+    ensures { λ r. ⌜ decPairOf r ≡ record { pair = pairOf ends; decoration = decorationOf d } ⌝ }
 {
     if are_nans(ends) {
         return DecInterval::NAI;
@@ -58,7 +58,7 @@ fn read_as(ends: EndPair, d: Decoration) -> DecInterval
 
 // The ends and the decoration that were read, judged and answered.
 pub fn answer_read(ends: EndPair, d: Decoration) -> DecAnswer
-    ensures { λ r. ⌜ Answered₁ (JudgedRead binary64) (ReadAs binary64) (record { pair = pairOf ends; decoration = decorationOf d }) (decOutcome r) ⌝ }
+    ensures { λ r. ⌜ Answered₁ (JudgedRead binary64) (λ x z. z ≡ x) (record { pair = pairOf ends; decoration = decorationOf d }) (decOutcome r) ⌝ }
 {
     if !has_bytes_ends(ends) {
         return DecAnswer::Refused(Refusal::BAD_ENDS);

@@ -4,9 +4,12 @@ pub mod SetLaws
 pub mod SupremumLaws
 pub mod QuotientLaws
 pub mod PairLaws
+pub mod KindLaws
 pub mod HullLaws
 pub mod PatternHull
 pub mod Unique
+pub mod SpellingLaws
+pub mod NaNRefusals
 pub mod ExactEnds
 pub mod ExactLaws
 pub mod NoWider

@@ -73,13 +73,17 @@ pub data JudgedDecBytes (F : Format) (o : ByteOrder) (bs : List ℕ) : Verdict �
   decBytesGood : (d : Decoration) → SaysDecoration bs d → BytesEnds F (readPair o bs)
       → Agrees F (record { pair = readPair o bs; decoration = d }) → JudgedDecBytes F o bs sound
 
--- What sound decorated bytes are read as: "any NaNs are read", and NaI's ends are then those that are written.
-pub data ReadDecorated (F : Format) (o : ByteOrder) (bs : List ℕ) : DecPair → Type 0 where
-  readNaI : NaNs F (readPair o bs) → ReadDecorated F o bs (naI F)
-  readInterval : (d : Decoration) → SaysDecoration bs d → (NaNs F (readPair o bs) → ⊥)
-      → ReadDecorated F o bs (record { pair = readPair o bs; decoration = d })
+-- What sound decorated bytes are read as: their ends, and the decoration that the seventeenth says.
+pub record ReadDecorated (o : ByteOrder) (bs : List ℕ) (x : DecPair) : Type 0 where
+  pub ends : x .pair ≡ readPair o bs
+  pub byte : SaysDecoration bs (x .decoration)
 
 -- The same interval with its zeros as the bytes have them.
 pub record Tidied (F : Format) (p q : Pair) : Type 0 where
   pub canonical : Canonical F q
   pub same : SameSet (setOf F p) (setOf F q)
+
+-- "Every interval handed back has its zeros, and NaI its ends, as the bytes have them."
+pub data TidiedDec (F : Format) (x : DecPair) : DecPair → Type 0 where
+  tidiedNaI : NaNs F (x .pair) → TidiedDec F x (naI F)
+  tidiedInterval : {z : DecPair} → (NaNs F (x .pair) → ⊥) → Tidied F (x .pair) (z .pair) → z .decoration ≡ x .decoration → TidiedDec F x z

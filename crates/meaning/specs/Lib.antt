@@ -13,6 +13,7 @@ pub mod Exactness
 pub mod Overlap
 pub mod Comparisons
 pub mod Bytes
+pub mod Forms
 pub mod Calls
 pub mod Requests
 pub mod ExactRequests

@@ -5,7 +5,7 @@ use mathlib.Core.Logic.{_⊎_}
 use Prim.Native.Nat.{ℕ, _+_, _*_, _^_, _<_}
 use lib.Dec.{eqb, ltb}
 use lib.Pow.{pow-pos}
-use Rattle.patterns.specs.Format.{Format, infinity, signBit}
+use Rattle.patterns.specs.Format.{Format, infinity, signBit, quietNaN}
 use Rattle.patterns.specs.Value.{Finite, magnitude, plus, minus}
 use Rattle.meaning.specs.Fraction.{Fraction, _≼_}
 use Rattle.meaning.specs.Sets.{End, at, unbounded, Set, empty, span}
@@ -52,10 +52,10 @@ pub record Canonical (F : Format) (p : Pair) : Type 0 where
   pub lowerZero : p .lower ≡ 0 → ⊥
   pub upperZero : p .upper ≡ signBit F → ⊥
 
--- Two NaNs, the ends of NaI.
+-- The ends of NaI. Ticket 4: "only 7FF8000000000000 in both ends is two NaNs".
 pub record NaNs (F : Format) (p : Pair) : Type 0 where
-  pub lowerIs : NaN F (p .lower)
-  pub upperIs : NaN F (p .upper)
+  pub lowerIs : p .lower ≡ quietNaN F
+  pub upperIs : p .upper ≡ quietNaN F
 
 -- "Infinity lacks a scaled value: the definitions treat it apart." An infinite pattern bounds nothing.
 abbrev pub endBy : Bool → Fraction → End

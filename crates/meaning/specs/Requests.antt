@@ -11,11 +11,12 @@ use Rattle.meaning.specs.Sets.{Set}
 use Rattle.meaning.specs.Pairs.{setOf}
 use Rattle.meaning.specs.Points.{Unary, neg, abs, ceil, floor, round, roundTiesEven, sign, trunc, add, sub, mul, div, max, min}
 use Rattle.meaning.specs.Results.{Operation, point, convexHull, intersection, Result₁, Result₂}
-use Rattle.meaning.specs.Statement.{DecPair, Outcome, Verdict, Answered₁, Answered₂, HullOf, RightDec₁, RightDec₂}
+use Rattle.meaning.specs.Statement.{DecPair, Outcome, Answered₁, Answered₂, HullOf, RightDec₁, RightDec₂}
 use Rattle.meaning.specs.Calls.{Test, Called}
 use Rattle.meaning.specs.Overlap.{OverlapNumber, DecoratedOverlap}
 use Rattle.meaning.specs.Comparisons.{Comparison, equal, subset, interior, disjoint, less, strictLess, precedes, strictPrecedes, PairsCompare}
 use Rattle.meaning.specs.Bytes.{ByteOrder, bigEndian, readPair, writePair, writeDecorated, Written, JudgedBytes, JudgedDecBytes, ReadDecorated}
+use Rattle.meaning.specs.Forms.{Form, bareForm, decoratedForm, sizeOf, JudgedIn, ReadsAs, write}
 
 -- What a request asks for: an operation of one operand, of two, overlap, or a comparison.
 pub data Asked : Type 0 where
@@ -60,10 +61,10 @@ zeros (suc count) = 0 ∷ zeros count
 
 -- "33 bytes bare (answer 16), 35 decorated (answer 17)"
 abbrev pub bareSize : ℕ
-bareSize = 16
+bareSize = sizeOf bareForm
 
 abbrev pub decoratedSize : ℕ
-decoratedSize = 17
+decoratedSize = sizeOf decoratedForm
 
 -- "Overlap answers its state number, then zero bytes."
 abbrev pub writeState : (size : ℕ) → ℕ → List ℕ
@@ -78,22 +79,11 @@ flagByte false = 0
 abbrev pub writeTruth : (size : ℕ) → Bool → List ℕ
 writeTruth size t = writeState size (flagByte t)
 
--- A form in which intervals come: how many bytes they have, and what is found of them.
-pub record Form : Type 1 where
-  pub size : ℕ
-  pub Judged : List ℕ → Verdict → Type 0
-
-abbrev pub bareForm : Format → Form
-bareForm F = record { size = bareSize; Judged = JudgedBytes F bigEndian }
-
-abbrev pub decoratedForm : Format → Form
-decoratedForm F = record { size = decoratedSize; Judged = JudgedDecBytes F bigEndian }
-
 -- The outcome of a comparison in either form, by the pairs that its operands' bytes are read as.
 abbrev pub ComparisonOutcome : Format → Form → Comparison → (first second : List ℕ) → Outcome (List ℕ) → Type 0
-ComparisonOutcome F form c first second o =
-    Answered₂ (form .Judged)
-    (λ x y out. Written (writeTruth (form .size)) (Answers (PairsCompare F c (readPair bigEndian x) (readPair bigEndian y))) out) first second o
+ComparisonOutcome F f c first second o =
+    Answered₂ (JudgedIn F f bigEndian)
+    (λ x y out. Written (writeTruth (sizeOf f)) (Answers (PairsCompare F c (readPair bigEndian x) (readPair bigEndian y))) out) first second o
 
 -- The pair that bytes are read as, and the set that it stands for.
 abbrev pub setRead : Format → List ℕ → Set
@@ -109,30 +99,30 @@ BareOutcome F (binary op) first second o =
 BareOutcome F overlap first second o =
     Answered₂ (JudgedBytes F bigEndian)
     (λ x y out. Written (writeState bareSize) (OverlapNumber (setRead F x) (setRead F y)) out) first second o
-BareOutcome F (comparison c) first second o = ComparisonOutcome F (bareForm F) c first second o
+BareOutcome F (comparison c) first second o = ComparisonOutcome F bareForm c first second o
 
 -- A right answer to decorated operands as their bytes are read.
-pub record Read₁ (F : Format) (Right : DecPair → List ℕ → Type 0) (first out : List ℕ) : Type 0 where
+pub record Read₁ (Right : DecPair → List ℕ → Type 0) (first out : List ℕ) : Type 0 where
   pub x : DecPair
-  pub readX : ReadDecorated F bigEndian first x
+  pub readX : ReadDecorated bigEndian first x
   pub right : Right x out
 
-pub record Read₂ (F : Format) (Right : DecPair → DecPair → List ℕ → Type 0) (first second out : List ℕ) : Type 0 where
+pub record Read₂ (Right : DecPair → DecPair → List ℕ → Type 0) (first second out : List ℕ) : Type 0 where
   pub x : DecPair
   pub y : DecPair
-  pub readX : ReadDecorated F bigEndian first x
-  pub readY : ReadDecorated F bigEndian second y
+  pub readX : ReadDecorated bigEndian first x
+  pub readY : ReadDecorated bigEndian second y
   pub right : Right x y out
 
 -- The outcome of a decorated operation on the bytes of its operands.
 abbrev pub DecoratedOutcome : Format → Asked → (first second : List ℕ) → Outcome (List ℕ) → Type 0
 DecoratedOutcome F (unary op) first second o =
-    Answered₁ (JudgedDecBytes F bigEndian) (Read₁ F (λ x. Written (writeDecorated bigEndian) (RightDec₁ F op x))) first o
+    Answered₁ (JudgedDecBytes F bigEndian) (Read₁ (λ x. Written (writeDecorated bigEndian) (RightDec₁ F op x))) first o
 DecoratedOutcome F (binary op) first second o =
-    Answered₂ (JudgedDecBytes F bigEndian) (Read₂ F (λ x y. Written (writeDecorated bigEndian) (RightDec₂ F op x y))) first second o
+    Answered₂ (JudgedDecBytes F bigEndian) (Read₂ (λ x y. Written (writeDecorated bigEndian) (RightDec₂ F op x y))) first second o
 DecoratedOutcome F overlap first second o =
-    Answered₂ (JudgedDecBytes F bigEndian) (Read₂ F (λ x y. Written (writeState decoratedSize) (DecoratedOverlap F x y))) first second o
-DecoratedOutcome F (comparison c) first second o = ComparisonOutcome F (decoratedForm F) c first second o
+    Answered₂ (JudgedDecBytes F bigEndian) (Read₂ (λ x y. Written (writeState decoratedSize) (DecoratedOverlap F x y))) first second o
+DecoratedOutcome F (comparison c) first second o = ComparisonOutcome F decoratedForm c first second o
 
 -- The operation number, and the two operands of a given size behind it.
 pub record Asks (input : List ℕ) (q : Asked) : Type 0 where
@@ -185,11 +175,8 @@ DecoratedRequest F input before refusal after =
     Called (requestTests decoratedSize) (Requested decoratedSize (DecoratedOutcome F)) input before refusal after
 
 -- "a codec (bare or decorated) reads one interval in one byte order and writes it in the other, place 1 with 4 to 6"
-abbrev pub BareCodec : Format → (from to : ByteOrder) (input before : List ℕ) (refusal : Refusal) (after : List ℕ) → Type 0
-BareCodec F from to input before refusal after =
-    Called (codecTests bareSize) (λ bs. Answered₁ (JudgedBytes F from) (λ x out. out ≡ writePair to (readPair from x)) bs) input before refusal after
+abbrev pub Recoded : Format → Form → (from to : ByteOrder) → List ℕ → Outcome (List ℕ) → Type 0
+Recoded F f from to bs o = Answered₁ (JudgedIn F f from) (λ x out. Written (write f to) (ReadsAs f from x) out) bs o
 
-abbrev pub DecoratedCodec : Format → (from to : ByteOrder) (input before : List ℕ) (refusal : Refusal) (after : List ℕ) → Type 0
-DecoratedCodec F from to input before refusal after =
-    Called (codecTests decoratedSize)
-    (λ bs. Answered₁ (JudgedDecBytes F from) (λ x out. Written (writeDecorated to) (ReadDecorated F from x) out) bs) input before refusal after
+abbrev pub Codec : Format → Form → (from to : ByteOrder) (input before : List ℕ) (refusal : Refusal) (after : List ℕ) → Type 0
+Codec F f from to input before refusal after = Called (codecTests (sizeOf f)) (Recoded F f from to) input before refusal after

@@ -65,7 +65,7 @@ pub record DecPair : Type 0 where
   pub pair : Pair
   pub decoration : Decoration
 
--- "NaI is two NaNs with byte 0 .. 7FF8000000000000 twice is written."
+-- "NaI is two NaNs with byte 0", and these are its only spelling.
 abbrev pub naI : Format → DecPair
 naI F = record { pair = record { lower = quietNaN F; upper = quietNaN F }; decoration = Ill }
 

@@ -10,7 +10,7 @@ use Rattle.meaning.specs.Pairs.{Pair, Bare, NaNs, setOf}
 use Rattle.meaning.specs.Decorations as meant
 use Rattle.meaning.specs.Decorations.{Ill, Trv, decorationByte, decorationBy, lowerOf, settled}
 use Rattle.meaning.specs.Statement.{sound, HullOf, DecPair, naI, JudgedDecorated, decoratedGood, RightDecorated, rightNaI, rightInterval}
-use Rattle.end_pairs.proofs.KindLaws.{only-bare}
+use Rattle.meaning.proofs.KindLaws.{only-bare}
 use Rattle.decorations.specs.DecorationMeaning.{decorationOf}
 use Rattle.decorations.specs.declared.types.Decoration.{Decoration}
 use Rattle.decorations.proofs.AgreeLaws.{apart, sound-ends}

@@ -29,6 +29,6 @@ infinity F = F .codes * 2 ^ F .frac
 unfoldable pub signBit : Format → ℕ
 signBit F = (F .codes + 1) * 2 ^ F .frac
 
--- The quiet NaN that is written: 7FF8000000000000 in binary64.
+-- The quiet NaN that both ends of NaI are: 7FF8000000000000 in binary64.
 unfoldable pub quietNaN : Format → ℕ
 quietNaN F = infinity F + 2 ^ (F .frac - 1)

@@ -1,6 +1,6 @@
 -- A request and a codec that are answered, bare and decorated: [1, 1] + [1, 1] = [2, 2], and [1, 1] in the other byte order.
 use mathlib.Core.Bool.{true}
-use mathlib.Core.Path.{_≡_, refl}
+use mathlib.Core.Path.{refl}
 use mathlib.Core.List.{List, _∷_, _++_}
 use Prim.Native.Nat.{ℕ}
 use native.Mathlib.Omega.{arith}
@@ -12,13 +12,13 @@ use Rattle.meaning.specs.Points.{add}
 use Rattle.meaning.specs.Results.{Result₂, point}
 use Rattle.meaning.specs.Pairs.{Bare, Canonical, minusInfinity, endOf, setOf}
 use Rattle.meaning.specs.Decorations.{Com}
-use Rattle.meaning.specs.Statement.{DecPair, given, noRefusal, sound, HullOf, RightDec₂, Answered₁, right₁, right₂, Decorated₂, Agrees, decoratedGood}
-use Rattle.meaning.specs.Bytes.{ByteOrder, bigEndian, littleEndian, JudgedBytes, bytesGood, JudgedDecBytes, decBytesGood, canonicalEnds, ReadDecorated, readInterval, readPair, writePair, writeDecorated, Written}
+use Rattle.meaning.specs.Statement.{DecPair, given, noRefusal, sound, HullOf, RightDec₂, right₁, right₂, Decorated₂, Agrees, decoratedGood}
+use Rattle.meaning.specs.Bytes.{ByteOrder, bigEndian, littleEndian, bytesGood, JudgedDecBytes, decBytesGood, canonicalEnds, ReadDecorated, writePair, writeDecorated}
 use Rattle.meaning.specs.Calls.{passed}
-use Rattle.meaning.specs.Requests.{binary, operationNumber, zeros, bareSize, decoratedSize, firstOperand, BareRequest, DecoratedRequest, BareCodec, DecoratedCodec}
+use Rattle.meaning.specs.Forms.{bareForm, decoratedForm}
+use Rattle.meaning.specs.Requests.{binary, operationNumber, zeros, bareSize, decoratedSize, firstOperand, BareRequest, DecoratedRequest, Recoded, Codec}
 use Rattle.meaning.specs.Exactness.{ExactPair, ExactHullOf}
 use Rattle.meaning.specs.ExactRequests.{exactSize, writeExact, ExactRequest}
-use Rattle.uniqueness.proofs.PairLaws.{bare-not-nans}
 use Rattle.theorem3.specs.Answer.{adding}
 use Rattle.cases.specs.Table.{only, one, two, decoratedBy}
 use Rattle.cases.specs.ExactTable.{flagged}
@@ -99,9 +99,9 @@ one-sound : (o : ByteOrder) → JudgedDecBytes binary64 o (writeDecorated o (com
 one-sound bigEndian = decBytesGood Com (record { is = refl }) (canonicalEnds one-canonical) (commonly .0)
 one-sound littleEndian = decBytesGood Com (record { is = refl }) (canonicalEnds one-canonical) (commonly .0)
 
-one-read : (o : ByteOrder) → ReadDecorated binary64 o (writeDecorated o (common one)) (common one)
-one-read bigEndian = readInterval Com (record { is = refl }) (bare-not-nans binary64 (only one) (one-and-one .0))
-one-read littleEndian = readInterval Com (record { is = refl }) (bare-not-nans binary64 (only one) (one-and-one .0))
+one-read : (o : ByteOrder) → ReadDecorated o (writeDecorated o (common one)) (common one)
+one-read bigEndian = record { ends = refl; byte = record { is = refl } }
+one-read littleEndian = record { ends = refl; byte = record { is = refl } }
 
 abbrev pub decoratedSum : List ℕ
 decoratedSum = operationNumber (binary (point add)) ∷ (writeDecorated bigEndian (common one) ++ writeDecorated bigEndian (common one))
@@ -134,29 +134,29 @@ abbrev pub whole : List ℕ → List ℕ
 whole input = input
 
 -- [1, 1] is recoded. The byte of an end that weighs most, which tells, is the last one in little endian.
-bare-one : (from to : ByteOrder) → Answered₁ (JudgedBytes binary64 from) (λ x out. out ≡ writePair to (readPair from x)) (writePair from (only one)) (given (writePair to (only one)))
-bare-one bigEndian to = right₁ (bytesGood one-canonical) refl
-bare-one littleEndian to = right₁ (bytesGood one-canonical) refl
+bare-one : (from to : ByteOrder) → Recoded binary64 bareForm from to (writePair from (only one)) (given (writePair to (only one)))
+bare-one bigEndian to = right₁ (bytesGood one-canonical) (record { answer = only one; right = refl; written = refl })
+bare-one littleEndian to = right₁ (bytesGood one-canonical) (record { answer = only one; right = refl; written = refl })
 
-decorated-one : (from to : ByteOrder) → Answered₁ (JudgedDecBytes binary64 from) (λ x out. Written (writeDecorated to) (ReadDecorated binary64 from x) out) (writeDecorated from (common one)) (given (writeDecorated to (common one)))
+decorated-one : (from to : ByteOrder) → Recoded binary64 decoratedForm from to (writeDecorated from (common one)) (given (writeDecorated to (common one)))
 decorated-one from to = right₁ (one-sound from) (record { answer = common one; right = one-read from; written = refl })
 
-pub bare-shown-big : Shown (BareCodec binary64 littleEndian bigEndian) bigEndian whole
+pub bare-shown-big : Shown (Codec binary64 bareForm littleEndian bigEndian) bigEndian whole
 bare-shown-big =
     shown-at 0 (writePair littleEndian (only one)) (zeros bareSize) (writePair bigEndian (only one))
     (called-by (given (writePair bigEndian (only one))) (passed refl (passed refl (bare-one littleEndian bigEndian)))) refl refl refl refl
 
-pub bare-shown-little : Shown (BareCodec binary64 bigEndian littleEndian) littleEndian whole
+pub bare-shown-little : Shown (Codec binary64 bareForm bigEndian littleEndian) littleEndian whole
 bare-shown-little =
     shown-at 7 (writePair bigEndian (only one)) (zeros bareSize) (writePair littleEndian (only one))
     (called-by (given (writePair littleEndian (only one))) (passed refl (passed refl (bare-one bigEndian littleEndian)))) refl refl refl refl
 
-pub decorated-shown-big : Shown (DecoratedCodec binary64 littleEndian bigEndian) bigEndian whole
+pub decorated-shown-big : Shown (Codec binary64 decoratedForm littleEndian bigEndian) bigEndian whole
 decorated-shown-big =
     shown-at 0 (writeDecorated littleEndian (common one)) (zeros decoratedSize) (writeDecorated bigEndian (common one))
     (called-by (given (writeDecorated bigEndian (common one))) (passed refl (passed refl (decorated-one littleEndian bigEndian)))) refl refl refl refl
 
-pub decorated-shown-little : Shown (DecoratedCodec binary64 bigEndian littleEndian) littleEndian whole
+pub decorated-shown-little : Shown (Codec binary64 decoratedForm bigEndian littleEndian) littleEndian whole
 decorated-shown-little =
     shown-at 7 (writeDecorated bigEndian (common one)) (zeros decoratedSize) (writeDecorated littleEndian (common one))
     (called-by (given (writeDecorated littleEndian (common one))) (passed refl (passed refl (decorated-one bigEndian littleEndian)))) refl refl refl refl

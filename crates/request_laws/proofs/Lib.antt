@@ -1,5 +1,4 @@
 -- Laws of requests and codecs.
-pub mod SoundLaws
 pub mod OutcomeLaws
 pub mod OneOutcome
 pub mod SmallLaws

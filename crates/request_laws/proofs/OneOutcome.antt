@@ -1,14 +1,15 @@
 -- Two outcomes that satisfy the statement of a request or a codec are equal: the refusal and the whole output.
-use mathlib.Core.Path.{_≡_, sym, _∙_}
+use mathlib.Core.Path.{_≡_}
 use mathlib.Core.List.{List}
 use Prim.Native.Nat.{ℕ}
 use Rattle.patterns.specs.Format.{Format}
 use Rattle.meaning.specs.Bytes.{ByteOrder}
-use Rattle.meaning.specs.Requests.{BareRequest, DecoratedRequest, BareCodec, DecoratedCodec}
+use Rattle.meaning.specs.Forms.{Form}
+use Rattle.meaning.specs.Requests.{BareRequest, DecoratedRequest, Codec}
 use Rattle.meaning.specs.ExactRequests.{ExactRequest}
 use Rattle.meaning.proofs.Unique.{one-answer₁, written-once}
-use Rattle.uniqueness.proofs.VerdictLaws.{judged-bytes-once, judged-decBytes-once}
-use Rattle.uniqueness.proofs.ReadingLaws.{read-once}
+use Rattle.uniqueness.proofs.VerdictLaws.{judged-in-once}
+use Rattle.uniqueness.proofs.ReadingLaws.{reads-once}
 use Rattle.meaning.specs.Calls.{Left}
 use Rattle.request_laws.specs.Calls.{Statement, Leaves}
 use Rattle.meaning.proofs.CalledLaws.{called-once}
@@ -28,10 +29,6 @@ module _ (F : Format) where
   pub decorated-request-once : OneLeft (DecoratedRequest F)
   decorated-request-once input before = called-once (requested-once (decorated-outcome-once F))
 
-  pub bare-codec-once : (from to : ByteOrder) → OneLeft (BareCodec F from to)
-  bare-codec-once from to input before =
-      called-once (λ o p. one-answer₁ (judged-bytes-once F from input) (λ z w h k. h ∙ sym k))
-
-  pub decorated-codec-once : (from to : ByteOrder) → OneLeft (DecoratedCodec F from to)
-  decorated-codec-once from to input before =
-      called-once (λ o p. one-answer₁ (judged-decBytes-once F from input) (written-once (read-once F from input)))
+  pub codec-once : (f : Form) (from to : ByteOrder) → OneLeft (Codec F f from to)
+  codec-once f from to input before =
+      called-once (λ o p. one-answer₁ (judged-in-once F from input f) (written-once (reads-once f from input)))

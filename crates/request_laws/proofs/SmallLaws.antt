@@ -8,7 +8,8 @@ use Rattle.refusals.specs.declared.Refusal.{Refusal}
 use Rattle.patterns.specs.Format.{Format}
 use Rattle.meaning.specs.Statement.{Outcome, refused, given, noRefusal, Verdict, wrong, Answered₁, first₁, Answered₂, first₂, second₂}
 use Rattle.meaning.specs.Bytes.{ByteOrder, bigEndian, JudgedBytes, bytesFive, JudgedDecBytes, bytesFour, decBytesFive, decBytesSix}
-use Rattle.meaning.specs.Requests.{Asked, unary, binary, overlap, comparison, BareOutcome, DecoratedOutcome, BareRequest, DecoratedRequest, BareCodec, DecoratedCodec}
+use Rattle.meaning.specs.Forms.{Form, bareForm, decoratedForm, JudgedIn}
+use Rattle.meaning.specs.Requests.{Asked, unary, binary, overlap, comparison, BareOutcome, DecoratedOutcome, BareRequest, DecoratedRequest, Codec}
 use Rattle.meaning.specs.ExactRequests.{ExactOutcome, ExactRequest}
 use Rattle.meaning.specs.Calls.{Left, leftBy, Test, failed, passed, Chain, Called}
 use Rattle.request_laws.specs.Calls.{Statement, Packed, Small}
@@ -54,6 +55,10 @@ module _ (F : Format) where
   decBytes-small o bs n (decBytesFive _ _ _) = lit≤ tt
   decBytes-small o bs n (decBytesSix _ _ _ _) = lit≤ tt
 
+  in-small : (f : Form) (o : ByteOrder) (bs : List ℕ) (n : ℕ) → JudgedIn F f o bs (wrong n) → n ≤ 6
+  in-small bareForm = bytes-small
+  in-small decoratedForm = decBytes-small
+
   bare-small : (q : Asked) (first second : List ℕ) (r : Refusal) → BareOutcome F q first second (refused r) → Small r
   bare-small (unary op) first second r = small₁ (bytes-small bigEndian) first
   bare-small (binary op) first second r = small₂ (bytes-small bigEndian) first second
@@ -81,11 +86,8 @@ module _ (F : Format) where
   pub decorated-request-small : {input before after : List ℕ} {r : Refusal} → DecoratedRequest F input before r after → Small r
   decorated-request-small = called-small (lit≤ tt, (lit≤ tt, (lit≤ tt, tt))) (λ r h. decorated-small (h .asked) _ _ r (h .outcome))
 
-  pub bare-codec-small : (from to : ByteOrder) {input before after : List ℕ} {r : Refusal} → BareCodec F from to input before r after → Small r
-  bare-codec-small from to {input = input} = called-small (lit≤ tt, (lit≤ tt, tt)) (λ r. small₁ (bytes-small from) input)
-
-  pub decorated-codec-small : (from to : ByteOrder) {input before after : List ℕ} {r : Refusal} → DecoratedCodec F from to input before r after → Small r
-  decorated-codec-small from to {input = input} = called-small (lit≤ tt, (lit≤ tt, tt)) (λ r. small₁ (decBytes-small from) input)
+  pub codec-small : (f : Form) (from to : ByteOrder) {input before after : List ℕ} {r : Refusal} → Codec F f from to input before r after → Small r
+  codec-small f from to {input = input} = called-small (lit≤ tt, (lit≤ tt, tt)) (λ r. small₁ (in-small f from) input)
 
 -- A packed result and the output after it are one as well.
 pub packed-once : {S : Statement} → OneLeft S → (input before : List ℕ) {r s : ℕ} {after then : List ℕ}

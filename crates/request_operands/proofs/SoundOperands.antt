@@ -4,16 +4,16 @@ use mathlib.Core.List.{List}
 use Prim.Native.Nat.{ℕ}
 use Rattle.patterns.specs.Format.{binary64}
 use Rattle.meaning.specs.Pairs.{Pair, Bare}
-use Rattle.meaning.specs.Statement.{Outcome, given, Answered₁, right₁, Answered₂, right₂}
-use Rattle.meaning.specs.Bytes.{bigEndian, JudgedBytes, bytesGood, Written}
+use Rattle.meaning.specs.Statement.{Outcome, given, right₁, Answered₂, right₂}
+use Rattle.meaning.specs.Bytes.{bigEndian, bytesGood, Written}
+use Rattle.meaning.specs.Forms.{bareForm, JudgedIn, ReadsAs, Reading}
 use Rattle.request_laws.specs.Reads.{BothRead}
-use Rattle.request_operands.specs.OperandMeaning.{ReadPair}
 
 abbrev pub ReadOne : List ℕ → Outcome Pair → Type 0
-ReadOne first o = Answered₁ (JudgedBytes binary64 bigEndian) ReadPair first o
+ReadOne first o = Reading binary64 bareForm bigEndian first o
 
 abbrev pub ReadTwo : (first second : List ℕ) → Outcome (Pair × Pair) → Type 0
-ReadTwo first second o = Answered₂ (JudgedBytes binary64 bigEndian) (BothRead ReadPair) first second o
+ReadTwo first second o = Answered₂ (JudgedIn binary64 bareForm bigEndian) (BothRead (ReadsAs bareForm bigEndian)) first second o
 
 pub one-sound : {first : List ℕ} {x : Pair} → ReadOne first (given x) → Bare binary64 x
 one-sound (right₁ (bytesGood h) e) = subst⁻¹ (Bare binary64) e (h .bare)

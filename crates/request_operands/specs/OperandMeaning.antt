@@ -1,18 +1,10 @@
 -- What the code's operands are in the terms of document 01.
-use mathlib.Core.Path.{_≡_}
-use mathlib.Core.List.{List}
-use Prim.Native.Nat.{ℕ}
 use Rattle.meaning.specs.Pairs.{Pair}
 use Rattle.meaning.specs.Statement as stated
 use Rattle.meaning.specs.Statement.{refused, given}
-use Rattle.meaning.specs.Bytes.{bigEndian, readPair}
 use Rattle.interval.specs.IntervalMeaning.{pairOf}
 use Rattle.request_operands.specs.declared.bare.Both.{Both}
 
 abbrev pub bothOf : Both → stated.Outcome (Pair × Pair)
 bothOf (Both.Read x y) = given (pairOf x, pairOf y)
 bothOf (Both.Refused r) = refused r
-
--- The pair that the bytes of an operand are read as.
-abbrev pub ReadPair : List ℕ → Pair → Type 0
-ReadPair bs x = x ≡ readPair bigEndian bs

@@ -2,11 +2,12 @@
 ghost use mathlib.Core.Path.{_≡_};
 ghost use lib.ListN.{length};
 ghost use Rattle.patterns.specs.Format.{binary64};
-ghost use Rattle.meaning.specs.Bytes.{bigEndian, JudgedBytes};
+ghost use Rattle.meaning.specs.Bytes.{bigEndian};
+ghost use Rattle.meaning.specs.Forms.{bareForm, JudgedIn, ReadsAs};
 ghost use Rattle.meaning.specs.Requests.{firstOperand, secondOperand, bareSize};
 ghost use Rattle.meaning.specs.Statement.{Answered₂};
 ghost use Rattle.request_laws.specs.Reads.{BothRead};
-ghost use Rattle.request_operands.specs.OperandMeaning.{bothOf, ReadPair};
+ghost use Rattle.request_operands.specs.OperandMeaning.{bothOf};
 use ends_in_bytes::ByteOrder;
 use interval::Answer;
 use interval::Interval;
@@ -27,7 +28,7 @@ pub enum Both {
 
 pub fn read_both(input: &[u8]) -> Both
     requires { ⌜ length (now input) ≡ 33 ⌝ }
-    ensures { λ r. ⌜ Answered₂ (JudgedBytes binary64 bigEndian) (BothRead ReadPair) (firstOperand bareSize (now (input .entry))) (secondOperand bareSize (now (input .entry))) (bothOf r) ⌝ }
+    ensures { λ r. ⌜ Answered₂ (JudgedIn binary64 bareForm bigEndian) (BothRead (ReadsAs bareForm bigEndian)) (firstOperand bareSize (now (input .entry))) (secondOperand bareSize (now (input .entry))) (bothOf r) ⌝ }
 {
     match read_bare(input, FIRST_AT, ByteOrder::Big) {
         Answer::Given(x) => match read_bare(input, SECOND_AT, ByteOrder::Big) {

@@ -2,7 +2,8 @@
 ghost use mathlib.Core.Path.{_≡_};
 ghost use lib.ListN.{length};
 ghost use Rattle.patterns.specs.Format.{binary64};
-ghost use Rattle.meaning.specs.Bytes.{bigEndian, JudgedDecBytes, ReadDecorated};
+ghost use Rattle.meaning.specs.Bytes.{bigEndian};
+ghost use Rattle.meaning.specs.Forms.{decoratedForm, JudgedIn, ReadsAs};
 ghost use Rattle.meaning.specs.Requests.{firstOperand, secondOperand, decoratedSize};
 ghost use Rattle.meaning.specs.Statement.{Answered₂};
 ghost use Rattle.request_laws.specs.Reads.{BothRead};
@@ -27,7 +28,7 @@ pub enum Both {
 
 pub fn read_both(input: &[u8]) -> Both
     requires { ⌜ length (now input) ≡ 35 ⌝ }
-    ensures { λ r. ⌜ Answered₂ (JudgedDecBytes binary64 bigEndian) (BothRead (ReadDecorated binary64 bigEndian)) (firstOperand decoratedSize (now (input .entry))) (secondOperand decoratedSize (now (input .entry))) (bothOf r) ⌝ }
+    ensures { λ r. ⌜ Answered₂ (JudgedIn binary64 decoratedForm bigEndian) (BothRead (ReadsAs decoratedForm bigEndian)) (firstOperand decoratedSize (now (input .entry))) (secondOperand decoratedSize (now (input .entry))) (bothOf r) ⌝ }
 {
     match read_decorated(input, FIRST_AT, ByteOrder::Big) {
         DecAnswer::Given(x) => match read_decorated(input, SECOND_AT, ByteOrder::Big) {

@@ -5,10 +5,10 @@ use mathlib.Core.List.{List}
 use Prim.Native.Nat.{ℕ, _*_}
 use native.Mathlib.Decide.{map-dec, ℕ-discrete, decLt}
 use lib.ListN.{getD}
-use Rattle.patterns.specs.Format.{Format, infinity, signBit}
+use Rattle.patterns.specs.Format.{Format, infinity, signBit, quietNaN}
 use Rattle.patterns.specs.Value.{Finite, magnitude}
 use Rattle.meaning.specs.Fraction.{Fraction, _≼_}
-use Rattle.meaning.specs.Pairs.{Pair, worth, minusInfinity, NaN, Proper, EmptyPair, Bare, Canonical, NaNs}
+use Rattle.meaning.specs.Pairs.{Pair, worth, minusInfinity, Proper, EmptyPair, Bare, Canonical, NaNs}
 use Rattle.meaning.specs.Decorations.{Decoration, Ill, Trv, Com, decorationByte}
 use Rattle.meaning.specs.Statement.{DecPair, Ends, Agrees}
 use Rattle.meaning.specs.Bytes.{SaysDecoration, BytesEnds, canonicalEnds, nanEnds}
@@ -33,11 +33,6 @@ dec-finite F b =
     map-dec (λ h. record { pattern = h .0; finite = h .1 }) (λ h. (h .pattern, h .finite))
     (Dec·and (decLt b (2 * signBit F)) (decLt (magnitude F b) (infinity F)))
 
-pub dec-nan : (F : Format) (b : ℕ) → Dec (NaN F b)
-dec-nan F b =
-    map-dec (λ h. record { pattern = h .0; beyond = h .1 }) (λ h. (h .pattern, h .beyond))
-    (Dec·and (decLt b (2 * signBit F)) (decLt (infinity F) (magnitude F b)))
-
 module _ (F : Format) (p : Pair) where
   pub dec-proper : Dec (Proper F p)
   dec-proper =
@@ -59,7 +54,7 @@ module _ (F : Format) (p : Pair) where
   pub dec-nans : Dec (NaNs F p)
   dec-nans =
       map-dec (λ h. record { lowerIs = h .0; upperIs = h .1 }) (λ h. (h .lowerIs, h .upperIs))
-      (Dec·and (dec-nan F (p .lower)) (dec-nan F (p .upper)))
+      (Dec·and (ℕ-discrete (p .lower) (quietNaN F)) (ℕ-discrete (p .upper) (quietNaN F)))
 
   pub dec-ends : Dec (Ends F p)
   dec-ends = dec-or dec-bare dec-nans

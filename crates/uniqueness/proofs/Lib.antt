@@ -4,7 +4,6 @@ pub mod ExtendedOrder
 pub mod KeyLaws
 pub mod DecorationOrder
 pub mod DecorationLaws
-pub mod PairLaws
 pub mod VerdictLaws
 pub mod ReadingLaws
 pub mod Decisions

@@ -6,6 +6,8 @@ use Rattle.patterns.specs.Format.{Format}
 use Rattle.meaning.specs.Decorations.{Decoration}
 use Rattle.meaning.specs.Statement.{Verdict, wrong, DecPair, Agrees, JudgedDecorated, decoratedFive, decoratedSix, decoratedGood}
 use Rattle.meaning.specs.Bytes.{ByteOrder, readPair, JudgedBytes, bytesFive, bytesGood, SaysDecoration, JudgedDecBytes, bytesFour, decBytesFive, decBytesSix, decBytesGood}
+use Rattle.meaning.specs.Forms.{Form, bareForm, decoratedForm, Value, JudgedValue, JudgedIn}
+use Rattle.meaning.proofs.Unique.{judged-bare-once}
 use Rattle.uniqueness.proofs.DecorationOrder.{byte-injective}
 
 pub judged-decorated-once : (F : Format) (x : DecPair) (v w : Verdict) → JudgedDecorated F x v → JudgedDecorated F x w → v ≡ w
@@ -18,6 +20,10 @@ judged-decorated-once F x v w (decoratedSix _ h) (decoratedGood _ k) = absurd (h
 judged-decorated-once F x v w (decoratedGood h _) (decoratedFive k) = absurd (k h)
 judged-decorated-once F x v w (decoratedGood _ h) (decoratedSix _ k) = absurd (k h)
 judged-decorated-once F x v w (decoratedGood _ _) (decoratedGood _ _) = refl
+
+pub judged-value-once : (F : Format) (f : Form) (x : Value f) (v w : Verdict) → JudgedValue F f x v → JudgedValue F f x w → v ≡ w
+judged-value-once F bareForm = judged-bare-once F
+judged-value-once F decoratedForm = judged-decorated-once F
 
 -- The seventeenth byte says one decoration.
 pub says-once : (bs : List ℕ) {d e : Decoration} → SaysDecoration bs d → SaysDecoration bs e → d ≡ e
@@ -51,6 +57,10 @@ module _ (F : Format) (o : ByteOrder) (bs : List ℕ) where
   judged-decBytes-once v w (decBytesGood _ _ h _) (decBytesFive _ _ k) = absurd (k h)
   judged-decBytes-once v w (decBytesGood d h _ agrees) (decBytesSix e k _ against) = absurd (against (agrees-once d e h k agrees))
   judged-decBytes-once v w (decBytesGood _ _ _ _) (decBytesGood _ _ _ _) = refl
+
+  pub judged-in-once : (f : Form) (v w : Verdict) → JudgedIn F f o bs v → JudgedIn F f o bs w → v ≡ w
+  judged-in-once bareForm = judged-bytes-once
+  judged-in-once decoratedForm = judged-decBytes-once
 
   -- At most one of 4, 5 and 6 is given.
   pub one-refusal : (m n : ℕ) → JudgedDecBytes F o bs (wrong m) → JudgedDecBytes F o bs (wrong n) → m ≡ n

@@ -6,6 +6,14 @@ type Call = fn(&[u8], &mut [u8]) -> Result<(), Refusal>;
 
 const INF: f64 = f64::INFINITY;
 const NAN: f64 = f64::NAN;
+
+// Patterns of ends: 1, the NaN that NaI has, and NaNs with another payload, with the sign set, and the least.
+const ONE: u64 = 0x3FF0000000000000;
+const QUIET: u64 = 0x7FF8000000000000;
+const PAYLOAD: u64 = 0x7FF8000000000001;
+const SIGN: u64 = 0xFFF8000000000000;
+const LEAST: u64 = 0x7FF0000000000001;
+
 const ILL: u8 = 0;
 const TRV: u8 = 4;
 const COM: u8 = 16;
@@ -27,6 +35,15 @@ fn interval(lower: f64, upper: f64) -> Vec<u8> {
 
 fn decorated(lower: f64, upper: f64, decoration: u8) -> Vec<u8> {
     [interval(lower, upper), vec![decoration]].concat()
+}
+
+/// A decorated interval, or what is none, by the patterns of its ends: Rust fixes no pattern for its own NaN.
+fn spelled(lower: u64, upper: u64, decoration: u8) -> Vec<u8> {
+    [&lower.to_be_bytes()[..], &upper.to_be_bytes(), &[decoration]].concat()
+}
+
+fn nai() -> Vec<u8> {
+    spelled(QUIET, QUIET, ILL)
 }
 
 fn request(operation: u8, first: &[u8], second: &[u8]) -> Vec<u8> {
@@ -73,19 +90,53 @@ fn expect_lengths_refused(what: &str, call: Call, good: &[u8], out_len: usize) {
     }
 }
 
+/// Ends of which one or both are NaNs, and which are not NaI's.
+const OTHER_NANS: [(&str, u64, u64); 11] = [
+    ("another payload", PAYLOAD, PAYLOAD),
+    ("another payload below", PAYLOAD, QUIET),
+    ("another payload above", QUIET, PAYLOAD),
+    ("the sign set", SIGN, SIGN),
+    ("the sign set below", SIGN, QUIET),
+    ("the sign set above", QUIET, SIGN),
+    ("the least NaN", LEAST, LEAST),
+    ("a NaN below only", QUIET, ONE),
+    ("a NaN above only", ONE, QUIET),
+    ("another NaN below only", SIGN, ONE),
+    ("another NaN above only", ONE, SIGN),
+];
+
 /// Operands that are refused in a decorated request, with the number that they get.
 fn bad_operands() -> Vec<(&'static str, Vec<u8>, u8)> {
-    vec![
+    let mut operands = vec![
         ("a byte that is no decoration's", decorated(1.0, 2.0, NO_DECORATION), 4),
         ("4 before 5", decorated(2.0, 1.0, NO_DECORATION), 4),
         ("ends out of order", decorated(2.0, 1.0, COM), 5),
         ("a zero of the wrong sign", decorated(0.0, 1.0, COM), 5),
-        ("one NaN", decorated(NAN, 1.0, TRV), 5),
         ("Ill on an interval", decorated(1.0, 2.0, ILL), 6),
         ("Com without a bound", decorated(1.0, INF, COM), 6),
         ("EMPTY without Trv", decorated(INF, -INF, COM), 6),
-        ("two NaNs without Ill", decorated(NAN, NAN, TRV), 6),
-    ]
+        ("NaI's ends without Ill", spelled(QUIET, QUIET, TRV), 6),
+    ];
+    for (what, lower, upper) in OTHER_NANS {
+        operands.push((what, spelled(lower, upper, ILL), 5));
+        operands.push((what, spelled(lower, upper, TRV), 5));
+        operands.push((what, spelled(lower, upper, NO_DECORATION), 4));
+    }
+    operands
+}
+
+/// Ends that are refused in a bare request.
+fn bad_ends() -> Vec<(&'static str, Vec<u8>)> {
+    let mut ends = vec![
+        ("ends out of order", interval(2.0, 1.0)),
+        ("a zero of the wrong sign", interval(0.0, 1.0)),
+        ("both ends +inf", interval(INF, INF)),
+        ("NaI's ends", nai()[..BARE].to_vec()),
+    ];
+    for (what, lower, upper) in OTHER_NANS {
+        ends.push((what, spelled(lower, upper, ILL)[..BARE].to_vec()));
+    }
+    ends
 }
 
 #[test]
@@ -139,7 +190,7 @@ fn comparisons_answer_one_or_zero_and_zero_bytes() {
 
 #[test]
 fn comparisons_of_nai_answer_no() {
-    let (nai, other) = (decorated(NAN, NAN, ILL), decorated(1.0, 2.0, COM));
+    let (nai, other) = (nai(), decorated(1.0, 2.0, COM));
     for operation in EQUAL..=STRICT_PRECEDES {
         for (first, second) in [(&nai, &other), (&other, &nai), (&nai, &nai)] {
             let asked = request(operation, first, second);
@@ -151,7 +202,7 @@ fn comparisons_of_nai_answer_no() {
 #[test]
 fn operands_of_comparisons_are_refused_with_their_place() {
     let (good, disordered) = (interval(1.0, 2.0), interval(2.0, 1.0));
-    let nai = decorated(NAN, NAN, ILL);
+    let nai = nai();
     for operation in EQUAL..=STRICT_PRECEDES {
         expect("bare, first", request_bare, &request(operation, &disordered, &good), BARE, Err((5, 1)));
         expect("bare, second", request_bare, &request(operation, &good, &disordered), BARE, Err((5, 2)));
@@ -165,11 +216,7 @@ fn operands_of_comparisons_are_refused_with_their_place() {
 #[test]
 fn bare_operands_are_refused_with_their_place() {
     let good = interval(1.0, 2.0);
-    for (what, bad) in [
-        ("ends out of order", interval(2.0, 1.0)),
-        ("a zero of the wrong sign", interval(0.0, 1.0)),
-        ("both ends +inf", interval(INF, INF)),
-    ] {
+    for (what, bad) in bad_ends() {
         expect(what, request_bare, &request(ADD, &bad, &good), BARE, Err((5, 1)));
         expect(what, request_bare, &request(ADD, &good, &bad), BARE, Err((5, 2)));
     }
@@ -238,12 +285,7 @@ fn exact_negation_reads_no_second_operand() {
 #[test]
 fn exact_operands_are_refused_with_their_place() {
     let good = interval(1.0, 2.0);
-    for (what, bad) in [
-        ("ends out of order", interval(2.0, 1.0)),
-        ("a zero of the wrong sign", interval(0.0, 1.0)),
-        ("both ends +inf", interval(INF, INF)),
-        ("one NaN", interval(NAN, 1.0)),
-    ] {
+    for (what, bad) in bad_ends() {
         expect(what, request_bare_exact, &request(NEG, &bad, &good), BARE_EXACT, Err((5, 1)));
         for operation in ADD..=DIV {
             expect(what, request_bare_exact, &request(operation, &bad, &good), BARE_EXACT, Err((5, 1)));
@@ -313,10 +355,18 @@ fn codecs_turn_the_byte_order() {
 }
 
 #[test]
+fn codecs_turn_nai() {
+    let (big, little) = (nai(), turned(&nai()));
+    expect("NaI to little", decorated_be_to_le, &big, DECORATED, Ok(&little));
+    expect("NaI to big", decorated_le_to_be, &little, DECORATED, Ok(&big));
+}
+
+#[test]
 fn codecs_refuse_at_place_one() {
-    let disordered = interval(3.0, 2.0);
-    expect("bare to little", bare_be_to_le, &disordered, BARE, Err((5, 1)));
-    expect("bare to big", bare_le_to_be, &turned(&disordered), BARE, Err((5, 1)));
+    for (what, bad) in bad_ends() {
+        expect(what, bare_be_to_le, &bad, BARE, Err((5, 1)));
+        expect(what, bare_le_to_be, &turned(&bad), BARE, Err((5, 1)));
+    }
     for (what, bad, number) in bad_operands() {
         expect(what, decorated_be_to_le, &bad, DECORATED, Err((number, 1)));
         expect(what, decorated_le_to_be, &turned(&bad), DECORATED, Err((number, 1)));

@@ -2,12 +2,13 @@
 use borrow.Author.Needs.{needs}
 use Rattle.patterns.specs.Format.{binary64}
 use Rattle.meaning.specs.Bytes.{bigEndian, littleEndian}
-use Rattle.request_laws.proofs.SmallLaws.{bare-codec-small}
+use Rattle.meaning.specs.Forms.{bareForm}
+use Rattle.request_laws.proofs.SmallLaws.{codec-small}
 use Rattle.host.proofs.muenglavot_bare_le_to_be.Statement.{statement}
 use Rattle.host.proofs.muenglavot_bare_le_to_be.Tie as tie
 
 packed-requires : tie.Need-packed-requires
-packed-requires c κs = bare-codec-small binary64 littleEndian bigEndian (c .before .before .bare-le-to-be .ensures)
+packed-requires c κs = codec-small binary64 bareForm littleEndian bigEndian (c .before .before .bare-le-to-be .ensures)
 
 pub muenglavot-bare-le-to-be-spec : {M : Type 1} → statement M
 muenglavot-bare-le-to-be-spec = tie.close (tie.spec (search needs) packed-requires (search needs) (λ c. search needs))

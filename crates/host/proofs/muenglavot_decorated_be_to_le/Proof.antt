@@ -2,12 +2,13 @@
 use borrow.Author.Needs.{needs}
 use Rattle.patterns.specs.Format.{binary64}
 use Rattle.meaning.specs.Bytes.{bigEndian, littleEndian}
-use Rattle.request_laws.proofs.SmallLaws.{decorated-codec-small}
+use Rattle.meaning.specs.Forms.{decoratedForm}
+use Rattle.request_laws.proofs.SmallLaws.{codec-small}
 use Rattle.host.proofs.muenglavot_decorated_be_to_le.Statement.{statement}
 use Rattle.host.proofs.muenglavot_decorated_be_to_le.Tie as tie
 
 packed-requires : tie.Need-packed-requires
-packed-requires c κs = decorated-codec-small binary64 bigEndian littleEndian (c .before .before .decorated-be-to-le .ensures)
+packed-requires c κs = codec-small binary64 decoratedForm bigEndian littleEndian (c .before .before .decorated-be-to-le .ensures)
 
 pub muenglavot-decorated-be-to-le-spec : {M : Type 1} → statement M
 muenglavot-decorated-be-to-le-spec = tie.close (tie.spec (search needs) packed-requires (search needs) (λ c. search needs))

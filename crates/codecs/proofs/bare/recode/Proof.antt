@@ -1,13 +1,12 @@
 -- `bare::recode` meets its contract: the lengths are tried first, and what is read is written in the other order.
-use mathlib.Core.Path.{ap}
-use native.Mathlib.Nat.{le-of-eq}
 use borrow.Author.Needs.{needs}
-use lib.Seq.{take-all}
-use Rattle.meaning.specs.Bytes.{writePair}
+use Rattle.patterns.specs.Format.{binary64}
+use Rattle.meaning.specs.Forms.{bareForm}
+use Rattle.meaning.proofs.CalledLaws.{pass, stop}
+use Rattle.request_laws.proofs.ReadLaws.{found₁}
 use Rattle.interval.specs.IntervalMeaning.{outcome}
 use Rattle.ends_in_bytes.specs.ByteOrderMeaning.{orderOf}
-use Rattle.meaning.proofs.CalledLaws.{pass, stop, written, refusing}
-use Rattle.request_laws.proofs.ReadLaws.{found₁, after₁, refused₁}
+use Rattle.codecs.proofs.RecodeLaws.{recoded, not-recoded}
 use Rattle.codecs.proofs.bare.recode.Statement.{statement}
 use Rattle.codecs.proofs.bare.recode.Tie as tie
 
@@ -21,20 +20,18 @@ returns-3 : tie.Need-returns-3
 returns-3 c =
     let told = c .before .before .before .before .before in
     let read = told .before .before in
-    let long = read .before .before .if1 .left in
-    let a = read .before .before .before .before .before .args in
-    let whole = rw (take-all 16 (a .input .now) (le-of-eq long)) at (read .read-bare .ensures) in
-    pass long
-    (pass (read .before .if2 .left)
-    (written (after₁ (found₁ outcome whole (told .x .given .1)) (ap (writePair (orderOf (a .to))))) (c .before .before .write-bare .ensures)))
+    let tried = read .before .before in
+    let a = tried .before .before .before .args in
+    recoded binary64 bareForm (orderOf (a .from)) (orderOf (a .to)) (tried .if1 .left) (read .before .if2 .left)
+    (found₁ outcome (read .read-bare .ensures) (told .x .given .1)) (c .before .before .write-bare .ensures)
 
 returns-4 : tie.Need-returns-4
 returns-4 c =
     let read = c .before .before .before in
-    let long = read .before .before .if1 .left in
-    let a = read .before .before .before .before .before .args in
-    let whole = rw (take-all 16 (a .input .now) (le-of-eq long)) at (read .read-bare .ensures) in
-    pass long (pass (read .before .if2 .left) (refusing (refused₁ (found₁ outcome whole (c .before .refusal .given .1)))))
+    let tried = read .before .before in
+    let a = tried .before .before .before .args in
+    not-recoded binary64 bareForm (orderOf (a .from)) (orderOf (a .to)) (tried .if1 .left) (read .before .if2 .left)
+    (found₁ outcome (read .read-bare .ensures) (c .before .refusal .given .1))
 
 pub recode-spec : {M : Type 1} → statement M
 recode-spec =

@@ -1,11 +1,12 @@
 -- `decorated::recode` meets its contract: the lengths are tried first, and what is read is written in the other order.
-use mathlib.Core.Path.{refl}
-use native.Mathlib.Nat.{le-of-eq}
 use borrow.Author.Needs.{needs}
-use lib.Seq.{take-all}
+use Rattle.patterns.specs.Format.{binary64}
+use Rattle.meaning.specs.Forms.{decoratedForm}
+use Rattle.meaning.proofs.CalledLaws.{pass, stop}
+use Rattle.request_laws.proofs.ReadLaws.{found₁}
 use Rattle.dec_interval.specs.DecIntervalMeaning.{decOutcome}
-use Rattle.meaning.proofs.CalledLaws.{pass, stop, written, refusing}
-use Rattle.request_laws.proofs.ReadLaws.{found₁, after₁, refused₁}
+use Rattle.ends_in_bytes.specs.ByteOrderMeaning.{orderOf}
+use Rattle.codecs.proofs.RecodeLaws.{recoded, not-recoded}
 use Rattle.codecs.proofs.decorated.recode.Statement.{statement}
 use Rattle.codecs.proofs.decorated.recode.Tie as tie
 
@@ -19,20 +20,18 @@ returns-3 : tie.Need-returns-3
 returns-3 c =
     let told = c .before .before .before .before .before in
     let read = told .before .before in
-    let long = read .before .before .if1 .left in
-    let a = read .before .before .before .before .before .args in
-    let whole = rw (take-all 17 (a .input .now) (le-of-eq long)) at (read .read-decorated .ensures) in
-    pass long
-    (pass (read .before .if2 .left)
-    (written (after₁ (found₁ decOutcome whole (told .x .given .1)) (λ r. record { answer = _; right = r; written = refl })) (c .before .before .write-decorated .ensures)))
+    let tried = read .before .before in
+    let a = tried .before .before .before .args in
+    recoded binary64 decoratedForm (orderOf (a .from)) (orderOf (a .to)) (tried .if1 .left) (read .before .if2 .left)
+    (found₁ decOutcome (read .read-decorated .ensures) (told .x .given .1)) (c .before .before .write-decorated .ensures)
 
 returns-4 : tie.Need-returns-4
 returns-4 c =
     let read = c .before .before .before in
-    let long = read .before .before .if1 .left in
-    let a = read .before .before .before .before .before .args in
-    let whole = rw (take-all 17 (a .input .now) (le-of-eq long)) at (read .read-decorated .ensures) in
-    pass long (pass (read .before .if2 .left) (refusing (refused₁ (found₁ decOutcome whole (c .before .refusal .given .1)))))
+    let tried = read .before .before in
+    let a = tried .before .before .before .args in
+    not-recoded binary64 decoratedForm (orderOf (a .from)) (orderOf (a .to)) (tried .if1 .left) (read .before .if2 .left)
+    (found₁ decOutcome (read .read-decorated .ensures) (c .before .refusal .given .1))
 
 pub recode-spec : {M : Type 1} → statement M
 recode-spec =

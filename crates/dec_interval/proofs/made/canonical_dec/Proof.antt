@@ -2,10 +2,9 @@
 use mathlib.Core.Path.{refl, subst⁻¹}
 use borrow.Author.Needs.{needs}
 use Rattle.patterns.specs.Format.{binary64, infinity, quietNaN}
-use Rattle.meaning.specs.Bytes.{Tidied}
-use Rattle.dec_interval.specs.Values.{tidiedNaI, tidiedInterval}
+use Rattle.meaning.specs.Bytes.{Tidied, tidiedNaI, tidiedInterval}
 use Rattle.truth.proofs.AnswerLaws.{said-yes, said-no}
-use Rattle.end_pairs.proofs.KindLaws.{only-bare}
+use Rattle.meaning.proofs.KindLaws.{only-bare}
 use Rattle.dec_interval.proofs.made.canonical_dec.Statement.{statement}
 use Rattle.dec_interval.proofs.made.canonical_dec.Tie as tie
 

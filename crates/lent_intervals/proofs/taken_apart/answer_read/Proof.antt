@@ -14,7 +14,10 @@ returns : tie.Need-returns
 returns c = first₁ (readFive (said-no (c .before .has-bytes-ends .ensures) (not-true _ (c .if1 .taken))))
 
 read-as-requires : tie.Need-read-as-requires
-read-as-requires c κs = said-yes (c .before .before .before .before .has-bytes-ends .ensures) (not-false _ (c .before .before .before .if1 .left))
+read-as-requires c κs =
+    readGood
+    (said-yes (c .before .before .before .before .has-bytes-ends .ensures) (not-false _ (c .before .before .before .if1 .left)))
+    (sound-agrees (sound₁ (c .before .before .judge-dec .ensures) (c .enum-told .given .1)))
 
 returns-2 : tie.Need-returns-2
 returns-2 c =

@@ -6,7 +6,7 @@ use Rattle.meaning.specs.Statement.{right₁}
 use Rattle.meaning.specs.Bytes.{Tidied}
 use Rattle.dec_interval.specs.Values.{isPart, isMissing}
 use Rattle.truth.proofs.AnswerLaws.{said-yes, said-no}
-use Rattle.end_pairs.proofs.KindLaws.{only-bare}
+use Rattle.meaning.proofs.KindLaws.{only-bare}
 use Rattle.interval.proofs.StatementLaws.{sound₁, refused₁}
 use Rattle.decorations.proofs.AgreeLaws.{sound-ends}
 use Rattle.dec_interval.proofs.types.DecInterval.interval.Statement.{statement}

@@ -1,0 +1,2 @@
+-- Laws of codecs.
+pub mod RecodeLaws
