@@ -13,7 +13,7 @@ use kinds::{is_zero, kind_of, mirrored_kind};
 use tables::{product_corner, quotient_corner};
 
 // For each end, whether it is the true bound of all results, attained or not.
-#[derive(Drop)]
+#[derive(Clone, Copy)]
 pub struct Exactness {
     pub lower: bool,
     pub upper: bool,

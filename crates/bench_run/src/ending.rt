@@ -11,7 +11,7 @@ const TOO_SHORT: u8 = 1;
 // Document 01's number for a byte after the last request that a run answers.
 const TOO_MANY: u8 = 7;
 
-#[derive(Drop)]
+#[derive(Clone, Copy)]
 pub enum Ending {
     // Another turn follows.
     Onward,

@@ -8,7 +8,7 @@ use lent_calls::{DECORATED_REQUEST, REPLY};
 
 // How far a run has come: the bytes at the front of the input buffer that are not answered yet, the requests that are, the bytes
 // at the front of the output buffer that are to be written, and whether another turn follows.
-#[derive(Drop)]
+#[derive(Clone, Copy)]
 pub struct Run {
     pub held: usize,
     pub answered: usize,

@@ -21,7 +21,7 @@ use end_pairs::{EndPair, SIGN, is_empty_pair, key};
 //    N* | a < 0 ∧ b ≤ 0
 //    P* | 0 ≤ a ∧ 0 < b
 // * These codes are used only in comments. (The crate's own comment has "a = 0 ∧ 0 ≤ b" for P*; its tables mean P0 and P1.)
-#[derive(Drop)]
+#[derive(Clone, Copy)]
 pub enum IntervalClass {
     E,
     M,

@@ -4,20 +4,20 @@ use decorations::Decoration;
 use interval::Interval;
 use refusals::Refusal;
 
-#[derive(Drop)]
+#[derive(Clone, Copy)]
 pub enum DecAnswer {
     Given(DecInterval),
     Refused(Refusal),
 }
 
-#[derive(Drop)]
+#[derive(Clone, Copy)]
 pub enum DecorationAnswer {
     Given(Decoration),
     Refused(Refusal),
 }
 
 // The interval part of a decorated interval. NaI has none.
-#[derive(Drop)]
+#[derive(Clone, Copy)]
 pub enum PartAnswer {
     Given(Interval),
     Missing,

@@ -4,7 +4,7 @@ use end_pairs::EndPair;
 use interval::Interval;
 
 // The decorated version of `Interval`.
-#[derive(Drop)]
+#[derive(Clone, Copy)]
 pub struct DecInterval {
     pub x: Interval,
     pub d: Decoration,

@@ -1,7 +1,7 @@
 // The decorations.
 
 // The decoration of a `DecInterval`, from the lowest to the highest.
-#[derive(Drop)]
+#[derive(Clone, Copy)]
 pub enum Decoration {
     // The "ill-formed" decoration.
     Ill,

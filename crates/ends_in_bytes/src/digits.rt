@@ -3,7 +3,7 @@ ghost use Rattle.std.specs.Prelude.{◌≡◌, reverse, ◌+◌, ◌*◌, ◌%�
 ghost use Rattle.meaning.specs.Bytes.{from_digits, to_digits, read_end, write_end};
 ghost use Rattle.ends_in_bytes.specs.ByteOrderMeaning.{order_of};
 
-#[derive(Drop)]
+#[derive(Clone, Copy)]
 pub enum ByteOrder {
     Big,
     Little,

@@ -21,7 +21,7 @@ use operation_names::{Arithmetic, Binary, Unary};
 use operations::{combine, image};
 
 // An interval, and for each end whether it is the true bound of all results.
-#[derive(Drop)]
+#[derive(Clone, Copy)]
 pub struct ExactInterval {
     pub x: Interval,
     pub lower_exact: bool,

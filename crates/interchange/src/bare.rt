@@ -13,7 +13,7 @@ use lent_intervals::{BARE, read_bare, write_bare};
 use refusals::Refusal;
 
 // Sixteen bytes and no refusal, or a refusal with zero bytes.
-#[derive(Drop)]
+#[derive(Clone, Copy)]
 pub struct BytesAnswer {
     pub refusal: Refusal,
     pub bytes: [u8; BARE],

@@ -14,7 +14,7 @@ use lent_intervals::{DECORATED, read_decorated, write_decorated};
 use refusals::Refusal;
 
 // Seventeen bytes and no refusal, or a refusal with zero bytes.
-#[derive(Drop)]
+#[derive(Clone, Copy)]
 pub struct DecBytesAnswer {
     pub refusal: Refusal,
     pub bytes: [u8; DECORATED],

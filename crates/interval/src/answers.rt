@@ -4,32 +4,32 @@ use classify::IntervalClass;
 use refusals::Refusal;
 
 // What is found of operands before anything is done with them.
-#[derive(Drop)]
+#[derive(Clone, Copy)]
 pub enum Verdict {
     Sound,
     Refused(Refusal),
 }
 
-#[derive(Drop)]
+#[derive(Clone, Copy)]
 pub enum Answer {
     Given(Interval),
     Refused(Refusal),
 }
 
-#[derive(Drop)]
+#[derive(Clone, Copy)]
 pub enum BoolAnswer {
     Given(bool),
     Refused(Refusal),
 }
 
 // An end, as its bit pattern.
-#[derive(Drop)]
+#[derive(Clone, Copy)]
 pub enum EndAnswer {
     Given(u64),
     Refused(Refusal),
 }
 
-#[derive(Drop)]
+#[derive(Clone, Copy)]
 pub enum ClassAnswer {
     Given(IntervalClass),
     Refused(Refusal),

@@ -8,7 +8,7 @@ ghost use Rattle.interval.specs.IntervalMeaning.{pair_of};
 use end_pairs::EndPair;
 
 // An interval with f64 bounds, as the bit patterns of its ends.
-#[derive(Drop)]
+#[derive(Clone, Copy)]
 pub struct Interval {
     pub ends: EndPair,
 }

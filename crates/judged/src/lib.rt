@@ -21,7 +21,7 @@ use operations::{combine, combine_dec, image, image_dec};
 use refusals::Refusal;
 
 // An interval with the exactness of each end, or a refusal.
-#[derive(Drop)]
+#[derive(Clone, Copy)]
 pub enum ExactAnswer {
     Given(ExactInterval),
     Refused(Refusal),

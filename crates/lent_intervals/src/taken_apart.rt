@@ -15,7 +15,7 @@ use interval::{Interval, Verdict};
 use refusals::Refusal;
 
 // The decoration that a byte says.
-#[derive(Drop)]
+#[derive(Clone, Copy)]
 pub enum ByteDecoration {
     Known(Decoration),
     Unknown,

@@ -2,10 +2,9 @@
 use mathlib.Core.Bool.{Bool, true, false}
 use mathlib.Core.Path.{◌≡◌, refl, sym, ◌∙◌, ap, ap₂, subst}
 use mathlib.Core.Logic.{◌⊎◌, inl, inr, ⊎_elim}
-use Prim.Native.Nat.{ℕ, ◌+◌, ◌*◌, ◌^◌, ◌<◌, ◌≤◌}
+use Prim.Native.Nat.{ℕ, ◌+◌, ◌*◌, ◌^◌, ◌<◌, ◌≤◌, zero-le}
 use native.Mathlib.Nat.{lt_of_le_of_lt, add-zero}
 use native.Mathlib.Omega.{arith}
-use borrow.Author.Rules.{zero≤}
 use borrow.Author.Tests.{lt-ltb, le-ltb, eq-eqb, ne_eqb}
 use lib.Dec.{T, ltb, eqb}
 use lib.Pow.{pow_pos}
@@ -58,7 +57,7 @@ unfolding minus_infinity
 opposite_minus_infinity F = opposite_negative F (infinity_below F)
 
 sign_positive : (F : Format) → 0 < sign_bit F
-sign_positive F = lt_of_le_of_lt zero≤ (infinity_below F)
+sign_positive F = lt_of_le_of_lt zero-le (infinity_below F)
 
 -- The two zeros are opposites.
 pub opposite_zero : (F : Format) → opposite F 0 ≡ sign_bit F

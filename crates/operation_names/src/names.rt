@@ -2,7 +2,7 @@
 use wholes::Function;
 
 // The operations of one operand. Those whose results are whole numbers have names of their own.
-#[derive(Drop)]
+#[derive(Clone, Copy)]
 pub enum Unary {
     Neg,
     Abs,
@@ -10,7 +10,7 @@ pub enum Unary {
 }
 
 // The operations of two operands.
-#[derive(Drop)]
+#[derive(Clone, Copy)]
 pub enum Binary {
     Add,
     Sub,
@@ -23,7 +23,7 @@ pub enum Binary {
 }
 
 // Those of them that round.
-#[derive(Drop)]
+#[derive(Clone, Copy)]
 pub enum Arithmetic {
     Add,
     Sub,
@@ -32,7 +32,7 @@ pub enum Arithmetic {
 }
 
 // The comparisons of two operands, whose answer is yes or no.
-#[derive(Drop)]
+#[derive(Clone, Copy)]
 pub enum Comparison {
     Equal,
     Subset,

@@ -8,7 +8,7 @@ use crate::names::{Arithmetic, Binary, Comparison, Unary};
 use wholes::Function;
 
 // What an operation number asks for.
-#[derive(Drop)]
+#[derive(Clone, Copy)]
 pub enum Asked {
     One(Unary),
     Two(Binary),
@@ -19,7 +19,7 @@ pub enum Asked {
 }
 
 // What it asks of a call that takes the arithmetic operations alone.
-#[derive(Drop)]
+#[derive(Clone, Copy)]
 pub enum AskedExact {
     Neg,
     Two(Arithmetic),

@@ -14,7 +14,7 @@ use decorations::{Decoration, lower_decoration};
 use end_pairs::are_nans;
 
 // Sound decorated operands: NaI if one of them is, or else intervals, with the lower of their decorations.
-#[derive(Drop)]
+#[derive(Clone, Copy)]
 pub enum Operands {
     Nai,
     Intervals(Decoration),

@@ -10,13 +10,13 @@ use refusals::Refusal;
 const NAI_NUMBER: u8 = 16;
 
 // The state of two decorated intervals, of which NaI has none.
-#[derive(Drop)]
+#[derive(Clone, Copy)]
 pub enum DecState {
     State(Overlap),
     Nai,
 }
 
-#[derive(Drop)]
+#[derive(Clone, Copy)]
 pub enum OverlapAnswer {
     Given(Overlap),
     // An operand is NaI.

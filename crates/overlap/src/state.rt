@@ -26,7 +26,7 @@
 //      └─           :       :  a   b
 //                   •———————•
 //                   c       d
-#[derive(Drop)]
+#[derive(Clone, Copy)]
 pub enum Overlap {
     // Both `x` and `y` are empty.
     BothEmpty,

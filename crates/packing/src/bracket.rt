@@ -5,7 +5,7 @@ ghost use Rattle.packing.specs.Bracket.{Rebrackets};
 use crate::WORD;
 
 // An exact value cut to significand * 2^exponent, and whether nothing was cut off.
-#[derive(Drop)]
+#[derive(Clone, Copy)]
 pub struct Approx {
     pub significand: u64,
     pub exponent: u32,

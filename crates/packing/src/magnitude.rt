@@ -5,7 +5,7 @@ ghost use Rattle.packing.specs.Magnitude.{Unpacks, Raises, Normalised};
 use crate::digits::missing;
 
 // A magnitude of worth significand * 2^exponent.
-#[derive(Drop)]
+#[derive(Clone, Copy)]
 pub struct Unpacked {
     pub significand: u64,
     pub exponent: u32,

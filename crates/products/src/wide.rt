@@ -8,7 +8,7 @@ const LIMB: u32 = 32;
 const LIMBS: u64 = 0x1_0000_0000;
 
 // Worth high * 2^64 + low.
-#[derive(Drop)]
+#[derive(Clone, Copy)]
 pub struct Wide {
     pub high: u64,
     pub low: u64,

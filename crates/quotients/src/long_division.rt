@@ -11,7 +11,7 @@ const LOW: u32 = 21;
 const APPENDED: u32 = 9;
 
 // A quotient so far, and what it leaves.
-#[derive(Drop)]
+#[derive(Clone, Copy)]
 pub struct Partial {
     pub quotient: u64,
     pub rest: u64,

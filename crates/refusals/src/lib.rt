@@ -3,7 +3,7 @@
 
 // The refusal of a call: its number, the place of the operand that is wrong, and an index. The place and the index are 0
 // where there is none.
-#[derive(Drop)]
+#[derive(Clone, Copy)]
 pub struct Refusal {
     pub number: u32,
     pub place: u32,

@@ -18,7 +18,7 @@ use refusals::{Refusal, SECOND};
 const SECOND_AT: usize = FIRST_AT + BARE;
 
 // Two operands, or the refusal of the first that is wrong.
-#[derive(Drop)]
+#[derive(Clone, Copy)]
 pub enum Both {
     Read(Interval, Interval),
     Refused(Refusal),

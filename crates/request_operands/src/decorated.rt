@@ -18,7 +18,7 @@ use refusals::{Refusal, SECOND};
 const SECOND_AT: usize = FIRST_AT + DECORATED;
 
 // Two operands, or the refusal of the first that is wrong.
-#[derive(Drop)]
+#[derive(Clone, Copy)]
 pub enum Both {
     Read(DecInterval, DecInterval),
     Refused(Refusal),

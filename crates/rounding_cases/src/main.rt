@@ -9,7 +9,7 @@ const CHUNK: usize = 65000;
 
 // What was found so far. `wrong` says that some case is not right, and `index` is then that of the first,
 // counted from 0; until then it is the number of cases. `more` says that the input goes on.
-#[derive(Drop)]
+#[derive(Clone, Copy)]
 struct Found {
     sums: Tally,
     products: Tally,

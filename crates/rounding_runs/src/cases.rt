@@ -19,7 +19,7 @@ const SECOND: usize = 9;
 const ANSWER: usize = 17;
 
 // How many cases of one operation are right, and how many are not.
-#[derive(Drop)]
+#[derive(Clone, Copy)]
 pub struct Tally {
     pub right: usize,
     pub wrong: usize,

@@ -10,7 +10,7 @@ use quotients::div_ru;
 use significands::double::SIGN;
 use sums::add_ru;
 
-#[derive(Drop)]
+#[derive(Clone, Copy)]
 pub enum Operation {
     Sum,
     Product,

@@ -13,7 +13,7 @@ use significands::double::FRACTION;
 const GUARD: u32 = 10;
 
 // The greater magnitude is high * 2^exponent, and the smaller one is cut to low * 2^exponent.
-#[derive(Drop)]
+#[derive(Clone, Copy)]
 pub struct Columns {
     pub high: u64,
     pub low: u64,

@@ -36,7 +36,7 @@ const BASE: u32 = 256;
 const FIRST_BYTE: u64 = 0x0100_0000_0000_0000;
 
 // A reply before it is written: the refusal, sixteen bytes as two patterns, and the last byte.
-#[derive(Drop)]
+#[derive(Clone, Copy)]
 pub struct Said {
     pub refusal: Refusal,
     pub ends: EndPair,

@@ -9,7 +9,7 @@ use interval::Interval;
 use lent_intervals::{BARE, ByteDecoration, DECORATED, decoration_of};
 
 // What is passed: a decorated interval, and whether its byte is a decoration's. If it is none, Ill stands in for it.
-#[derive(Drop)]
+#[derive(Clone, Copy)]
 pub struct Operand {
     pub value: DecInterval,
     pub known: bool,

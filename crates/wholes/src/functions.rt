@@ -12,7 +12,7 @@ use crate::magnitudes::{downward, nearest, nearest_even, sign_of, upward};
 use crate::split::{Parts, Side, split};
 use end_pairs::SIGN;
 
-#[derive(Drop)]
+#[derive(Clone, Copy)]
 pub enum Function {
     Ceil,
     Floor,

@@ -17,7 +17,7 @@ pub const ONE: u64 = 0x3ff0_0000_0000_0000;
 const HALF: u64 = 0x3fe0_0000_0000_0000;
 
 // Which neighbour a magnitude is nearer to.
-#[derive(Drop)]
+#[derive(Clone, Copy)]
 pub enum Side {
     Low,
     Middle,
@@ -25,7 +25,7 @@ pub enum Side {
 }
 
 // The whole numbers next to a magnitude, as patterns, and whether the lower one is even.
-#[derive(Drop)]
+#[derive(Clone, Copy)]
 pub struct Neighbours {
     pub low: u64,
     pub high: u64,
@@ -34,7 +34,7 @@ pub struct Neighbours {
 }
 
 // A magnitude is a whole number, or between two.
-#[derive(Drop)]
+#[derive(Clone, Copy)]
 pub enum Parts {
     Whole,
     Between(Neighbours),
