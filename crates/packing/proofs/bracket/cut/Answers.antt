@@ -12,8 +12,7 @@ use lib.Dec.{eqb}
 use lib.Pow.{pow_mono}
 use Rattle.packing.specs.Bracket.{Rebrackets}
 use Rattle.packing.proofs.CutLaws.{cut_brackets}
-use Rattle.packing.proofs.bracket.cut.Statement.{statement}
-use Rattle.packing.proofs.bracket.cut.Tie as tie
+use Rattle.packing.proofs.bracket.cut.Goals as goal
 
 shifted_back : (m s w : ℕ) → m < w → (eqb ((m / 2 ^ s * 2 ^ s) % w) m ≡ true) ↔ (m / 2 ^ s * 2 ^ s ≡ m)
 shifted_back m s w fits =
@@ -32,18 +31,15 @@ module _ (m s w : ℕ) (short : m < 2 ^ w) (wide : w ≤ s) where
   nothing-brackets : (e : ℕ) (x : Bool) → Rebrackets m e x 0 (e + s) (x && eqb m 0)
   nothing-brackets e x = subst (λ (q : ℕ). Rebrackets m e x q (e + s) (x && eqb m 0)) nothing_left (cut_brackets m e s x (eqb m 0) all-dropped)
 
-returns : tie.Need-returns
-returns c =
-    let a = c.before.before.before.before.args.a in
-    let s = c.before.before.before.before.args.shift in
+pub returns-then-shift-ge-WORD : goal.returns-then-shift-ge-WORD
+returns-then-shift-ge-WORD c =
+    let a = c.args.a in
+    let s = c.args.shift in
     let short : a.significand < 2 ^ 64 = search rules in
-    ((sym (nothing_left a.significand s 64 short c.before.before.if1.true), refl), nothing-brackets a.significand s 64 short c.before.before.if1.true a.exponent a.exact)
+    record { cuts = (sym (nothing_left a.significand s 64 short c.if-shift-ge-WORD.true), refl); brackets = nothing-brackets a.significand s 64 short c.if-shift-ge-WORD.true a.exponent a.exact }
 
-returns-2 : tie.Need-returns-2
-returns-2 c =
-    let a = c.before.before.before.before.before.args.a in
-    let s = c.before.before.before.before.before.args.shift in
-    ((refl, refl), cut_brackets a.significand a.exponent s a.exact _ (shifted_back a.significand s (2 ^ 64) (search rules)))
-
-pub cut_spec : {M : Type 1} → statement M
-cut_spec = tie.close (tie.spec (search rules) returns (search rules) (search rules) returns-2)
+pub returns : goal.returns
+returns c =
+    let a = c.args.a in
+    let s = c.args.shift in
+    record { cuts = (refl, refl); brackets = cut_brackets a.significand a.exponent s a.exact _ (shifted_back a.significand s (2 ^ 64) (search rules)) }

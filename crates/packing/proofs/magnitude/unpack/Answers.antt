@@ -3,13 +3,11 @@ use mathlib.Core.Path.{◌≡◌, sym, ◌∙◌, ap, subst}
 use Prim.Native.Nat.{ℕ, ◌+◌, ◌*◌, ◌-◌, ◌/◌, ◌%◌, ◌^◌, ◌<◌, ◌≤◌}
 use native.Mathlib.Nat.{mod-lt}
 use native.Mathlib.Omega.{arith}
-use borrow.Author.Rules.{rules}
 use lib.Pow.{pow_mono, pow_pos, split}
 use Rattle.packing.specs.Magnitude.{Unpacks}
 use Rattle.packing.proofs.UnpackLaws.{unpacks_subnormal, unpacks_normal}
 use Rattle.packing.proofs.WordLaws.{field_shifts, one_shifts}
-use Rattle.packing.proofs.magnitude.unpack.Statement.{statement}
-use Rattle.packing.proofs.magnitude.unpack.Tie as tie
+use Rattle.packing.proofs.magnitude.unpack.Goals as goal
 
 module _ (frac b : ℕ) (narrow : frac ≤ 52) (coded : b / 2 ^ frac < 2 ^ 11) where
   -- The pattern with nothing but its exponent field, as the machine shifts it, and what is left.
@@ -35,18 +33,14 @@ module _ (frac b : ℕ) (narrow : frac ≤ 52) (coded : b / 2 ^ frac < 2 ^ 11) w
       subst (λ (k : ℕ). Unpacks frac b (k + (b - coarse)) (b / 2 ^ frac - 1)) (sym (one_shifts narrow))
       (unpacks_normal frac b (b - coarse) (b / 2 ^ frac - 1) (omega arith) (omega (arith, shifts, within)))
 
-sub-fraction : tie.Need-overflow-sub-fraction
-sub-fraction c = within c.args.frac c.args.b c.requires.0 c.requires.1
+pub overflow_sub-fraction : goal.overflow_sub-fraction
+overflow_sub-fraction c = within c.args.frac c.args.b c.requires.0 c.requires.1
 
-returns : tie.Need-returns
-returns c = subnormal c.before.args.frac c.before.args.b c.before.requires.0 c.before.requires.1 c.if1.true
+pub returns-then-field-eq0 : goal.returns-then-field-eq0
+returns-then-field-eq0 c = subnormal c.args.frac c.args.b c.requires.0 c.requires.1 c.if-field-eq0.true
 
-add-t8 : tie.Need-overflow-add-t8
-add-t8 c = record { fits = no-carry c.before.args.frac c.before.args.b c.before.requires.0 c.before.requires.1 }
+pub overflow_add-result : goal.overflow_add-result
+overflow_add-result c = record { fits = no-carry c.args.frac c.args.b c.requires.0 c.requires.1 }
 
-returns-2 : tie.Need-returns-2
-returns-2 c = normal c.before.args.frac c.before.args.b c.before.requires.0 c.before.requires.1 c.if1.false
-
-pub unpack-spec : {M : Type 1} → statement M
-unpack-spec =
-    tie.close (tie.spec (search rules) (search rules) sub-fraction returns (search rules) add-t8 (search rules) (search rules) returns-2)
+pub returns : goal.returns
+returns c = normal c.args.frac c.args.b c.requires.0 c.requires.1 c.if-field-eq0.false
