@@ -9,8 +9,7 @@ use Rattle.patterns.specs.Format.{binary64, infinity}
 use Rattle.patterns.specs.Value.{value}
 use Rattle.packing.specs.Magnitude.{Unpacks}
 use Rattle.sums.specs.Alignment.{Aligns, Alignable, exponent_of}
-use Rattle.sums.proofs.align.aligned.Statement.{statement}
-use Rattle.sums.proofs.align.aligned.Tie as tie
+use Rattle.sums.proofs.align.aligned.Goals as goal
 
 coded : (x : ℕ) → x < infinity binary64 → x / 2 ^ 52 < 2 ^ 11
 unfolding infinity
@@ -35,23 +34,21 @@ worth {high = high} {low = low} {exponent = exponent} {exact = exact} u u' =
 exponent : {x m e : ℕ} → Unpacks 52 x m e → e ≡ exponent_of x
 exponent u = ⊎_elim (λ none. omega (arith, u.pattern, u.short)) (λ full. omega (arith, u.pattern, u.short)) u.fine
 
-unpack-requires : tie.Need-unpack-requires
-unpack-requires c κs = (lit≤ tt, coded c.args.x c.requires.1)
+pub unpack-requires : goal.unpack-requires
+unpack-requires c = (lit≤ tt, coded c.args.x c.requires.1)
 
-unpack-requires-2 : tie.Need-unpack-requires-2
-unpack-requires-2 c κs = (lit≤ tt, coded c.before.args.y (let le = c.before.requires.0 in let less = c.before.requires.1 in omega arith))
+pub unpack-requires-2 : goal.unpack-requires-2
+unpack-requires-2 c = (lit≤ tt, coded c.args.y (let le = c.requires.0 in let less = c.requires.1 in omega arith))
 
-align-requires : tie.Need-align-requires
-align-requires c κs =
-    let (ordered, finite) = c.before.before.requires in
-    alignable ordered finite c.before.unpack.ensures c.unpack2.ensures
+pub align-requires : goal.align-requires
+align-requires c =
+    let (ordered, finite) = c.requires in
+    alignable ordered finite c.unpack.ensures c.unpack-2.ensures
 
-returns : tie.Need-returns
+pub returns : goal.returns
 returns c =
-    let u = c.before.before.unpack.ensures in
-    let u' = c.before.unpack2.ensures in
-    let (there, aligns) = c.align.ensures in
-    (there ∙ ap₂ (λ (e' e : ℕ). max e' (e - 10)) (exponent u') (exponent u), worth u u' aligns)
-
-pub aligned-spec : {M : Type 1} → statement M
-aligned-spec = tie.close (tie.spec unpack-requires unpack-requires-2 align-requires returns)
+    let u = c.unpack.ensures in
+    let u' = c.unpack-2.ensures in
+    let there = c.align.ensures.exponent in
+    let aligns = c.align.ensures.aligns in
+    record { exponent = there ∙ ap₂ (λ (e' e : ℕ). max e' (e - 10)) (exponent u') (exponent u); aligns = worth u u' aligns }

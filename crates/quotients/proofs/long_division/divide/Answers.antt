@@ -4,17 +4,13 @@ use mathlib.Core.Path.{◌≡◌}
 use Prim.Native.Nat.{◌+◌, ◌*◌, ◌^◌}
 use native.Mathlib.Omega.{arith}
 use Rattle.quotients.proofs.Digits.{quotient_large}
-use Rattle.quotients.proofs.long_division.divide.Statement.{statement}
-use Rattle.quotients.proofs.long_division.divide.Tie as tie
+use Rattle.quotients.proofs.long_division.divide.Goals as goal
 
-returns : tie.Need-returns
+pub returns : goal.returns
 returns c =
-    let a = c.before.before.before.args.dividend in
-    let b = c.before.before.before.args.divisor in
+    let a = c.args.dividend in
+    let b = c.args.divisor in
     let q = c.settled.result.quotient in
     let r = c.settled.result.rest in
     let whole : q * b + r ≡ a * 2 ^ 60 = omega arith in
     (whole, search rules, quotient_large a b q r (search rules) (search rules) (search rules) whole)
-
-pub divide-spec : {M : Type 1} → statement M
-divide-spec = tie.close (tie.spec (search rules) (search rules) (search rules) returns)

@@ -1,0 +1,7 @@
+-- `quotients::div_ru` meets its contract: a quotient is rounded to itself exactly if it is a double.
+use Rattle.patterns.specs.Format.{binary64}
+use Rattle.patterns.proofs.ToldLaws.{told_by}
+use Rattle.quotients.proofs.div_ru.Goals as goal
+
+pub returns : goal.returns
+returns c = told_by binary64 c.quotient_up.ensures c.is_exact_quotient.ensures

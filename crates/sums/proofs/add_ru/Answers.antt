@@ -1,0 +1,7 @@
+-- `sums::add_ru` meets its contract: a sum is rounded to itself exactly if it is a double.
+use Rattle.patterns.specs.Format.{binary64}
+use Rattle.patterns.proofs.ToldLaws.{told_by}
+use Rattle.sums.proofs.add_ru.Goals as goal
+
+pub returns : goal.returns
+returns c = told_by binary64 c.sum_up.ensures c.is_exact_sum.ensures
