@@ -2,12 +2,8 @@
 use Rattle.patterns.specs.Format.{binary64, infinity, sign_bit}
 use Rattle.patterns.specs.Value.{magnitude}
 use Rattle.end_pairs.proofs.TestLaws.{answers_finite}
-use Rattle.end_pairs.proofs.tests.is_finite.Statement.{statement}
-use Rattle.end_pairs.proofs.tests.is_finite.Tie as tie
+use Rattle.end_pairs.proofs.tests.is_finite.Goals as goal
 
-returns : tie.Need-returns
+pub returns : goal.returns
 unfolding infinity sign_bit magnitude
 returns c = answers_finite binary64 c.ranges.b.fits
-
-pub is-finite-spec : {M : Type 1} → statement M
-is-finite-spec = tie.close (tie.spec returns)
