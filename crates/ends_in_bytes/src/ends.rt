@@ -17,7 +17,7 @@ fn eight_at(s: &[u8], start: usize) -> [u8; 8]
 {
     let mut d = [0u8; 8];
     let end = start + 8;
-    bytes::copy(&s[start..end], &mut d);
+    d.copy_from_slice(&s[start..end]);
     d
 }
 
@@ -26,7 +26,8 @@ fn put_eight(s: &mut [u8], start: usize, d: [u8; 8])
     requires { start + 8 ≤ length s.old }
     ensures { s.new ≡ take start s.old ++ (d ++ drop (start + 8) s.old) }
 {
-    bytes::copy(&d, &mut s[start..]);
+    let end = start + 8;
+    s[start..end].copy_from_slice(&d);
 }
 
 // The two ends that the sixteen bytes from a position on stand for.

@@ -1,0 +1,13 @@
+-- `bare::read` meets its contract: the part that is read is the whole.
+use mathlib.Core.Path.{◌≡◌}
+use native.Mathlib.Nat.{le_of_eq}
+use borrow.Author.Rules.{rules}
+use lib.ListN.{length}
+use lib.Seq.{take_all}
+use Rattle.interchange.proofs.bare.read.Goals as goal
+
+pub returns : goal.returns
+returns c =
+    let bytes = c.args.bytes in
+    let long : length bytes ≡ 16 = search rules in
+    rw (take_all 16 bytes (le_of_eq long)) at c.read_bare.ensures
