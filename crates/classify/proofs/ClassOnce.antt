@@ -3,7 +3,7 @@ use mathlib.Core.Path.{◌≡◌, refl, sym, ◌∙◌, ap₂}
 use native.Mathlib.Omega.{arith}
 use Rattle.meaning.specs.Fraction.{Fraction, ◌≺◌, ◌≈◌, whole}
 use Rattle.meaning.specs.Sets.{End, Set, empty, span}
-use Rattle.meaning.specs.Classes.{Class, class_e, class_m, class_n0, class_n1, class_p0, class_p1, class_z, BelowZero, below_zero, AtZero, at_zero, AboveZero, above_zero, LowerNegative, lower_number, UpperPositive, upper_number, ClassOf, is_e, is_m, is_n0, is_n1, is_p0, is_p1, is_z}
+use Rattle.meaning.specs.Classes.{Class, class_e, class_m, class_n0, class_n1, class_p0, class_p1, class_z, BelowZero, below_zero, AtZero, at_zero, AboveZero, above_zero, LowerNegative, lower_number, UpperPositive, upper_number, ClassOf, is_e, is_m, is_n0, is_n1, is_p0, is_p1, is_z, lower_none}
 use Rattle.classify.specs.ClassMeaning.{class_of}
 use Rattle.classify.specs.declared.IntervalClass.{IntervalClass}
 
@@ -33,9 +33,11 @@ not_above_lem g e = omega (arith, g.lt, e.eq)
 -- A number lies on one side of 0.
 negative_at : {a : End} → LowerNegative a → AtZero a → ⊥
 negative_at (lower_number l) (at_zero e) = not_below_lem l e
+negative_at lower_none k = elim k [ ]
 
 negative_above : {a : End} → LowerNegative a → AboveZero a → ⊥
 negative_above (lower_number l) (above_zero g) = not_both l g
+negative_above lower_none k = elim k [ ]
 
 at_above : {a : End} → AtZero a → AboveZero a → ⊥
 at_above (at_zero e) (above_zero g) = not_above_lem g e

@@ -1,5 +1,5 @@
 -- The quantifiers over the members of two valid spans come to an order of their ends, once for `≼` and `≺`.
-use Rattle.meaning.specs.Fraction.{Fraction, ◌≼◌, ◌≺◌}
+use Rattle.meaning.specs.Fraction.{Fraction, ◌≼◌}
 use Rattle.meaning.specs.Sets.{End, at, unbounded, span, Under, under, Over, over, Ordered}
 use Rattle.meaning.specs.Comparisons.{EachSome, EachEach}
 use Rattle.meaning.proofs.FractionLaws.{le_trans, lt_not_le}
@@ -19,6 +19,7 @@ module _ {R : Fraction → Fraction → Type 0} (order : Ascending R) where
       λ x m. record { member = q; inside = upper_member k; holds = order.from_below (below m.high) r }
   each_some {c = c} {d = unbounded} k reaches_all =
       λ x m. let (y, n, h) = upper_beyond c x in record { member = y; inside = n; holds = order.of_less h }
+  each_some {b = unbounded} {d = at q} k h = elim h [ ]
 
   pub each_some_only : {a b c d : End} → Ordered a b → EachSome R (span a b) (span c d) → Reaches R b d
   each_some_only {b = at p} {d = at q} h s =
@@ -34,6 +35,8 @@ module _ {R : Fraction → Fraction → Type 0} (order : Ascending R) where
   pub each_each : {a b c d : End} → Before R b c → EachEach R (span a b) (span c d)
   each_each {b = at p} {c = at q} (before r) =
       λ x y m n. order.to_above (order.from_below (below m.high) r) (above n.low)
+  each_each {b = at p} {c = unbounded} h = elim h [ ]
+  each_each {b = unbounded} h = elim h [ ]
 
   pub each_each_only : {a b c d : End} → Ordered a b → Ordered c d → EachEach R (span a b) (span c d) → Before R b c
   each_each_only {b = at p} {c = at q} h k s = before (s p q (upper_member h) (lower_member k))

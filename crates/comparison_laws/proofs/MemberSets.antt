@@ -1,7 +1,7 @@
 -- Comparisons that come to others: by mirror images, and since intervals have no gaps.
 use mathlib.Core.Logic.{◌⊎◌, ◌↔◌, inl, inr, ⊎_elim}
 use Rattle.meaning.specs.Fraction.{Fraction, ◌≼◌, ◌≺◌, negated}
-use Rattle.meaning.specs.Sets.{Set, span, Member, Valid, valid_empty, valid_span, mirror}
+use Rattle.meaning.specs.Sets.{Set, span, Member, Valid, valid_empty, valid_span, mirror, empty}
 use Rattle.meaning.specs.Comparisons.{subset, disjoint, EachSome, EachEach, AtLeast, Differs, Compares}
 use Rattle.meaning.proofs.FractionLaws.{lt_le, lt_not_le, le_or_lt, eq_refl, eq_sym, eq_le, eq_ge, antisymm}
 use Rattle.meaning.proofs.SetLaws.{over_trans, under_trans, some_member, member_mirror, mirror_member}
@@ -22,6 +22,7 @@ module _ {R : Fraction → Fraction → Type 0} (order : Ascending R) (X Y : Set
 -- An interval has no gaps.
 pub between : (X : Set) {x y z : Fraction} → Member X x → Member X z → x ≼ y → y ≼ z → Member X y
 between (span a b) m n h k = record { low = over_trans a h m.low; high = under_trans b k n.high }
+between empty m n h k = elim m [ ]
 
 -- A comparison by one relation is one by a relation that follows from it.
 pub weaken : (X Y : Set) {R S : Fraction → Fraction → Type 0} → ((x y : Fraction) → R x y → S x y) → EachSome R X Y → EachSome S X Y

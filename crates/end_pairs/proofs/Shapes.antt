@@ -71,6 +71,9 @@ module _ (F : Format) {p : Pair} where
 
   pub common_only : {Z : Set} → Shape F p Z → Common Z → Finite F p.lower × Finite F p.upper
   common_only (shape_span h (lower_finite l) (upper_finite u)) common = (l, u)
+  common_only (shape_empty _) k = elim k [ ]
+  common_only (shape_span h (lower_finite l) (upper_infinite _)) k = elim k [ ]
+  common_only (shape_span h (lower_infinite _) _) k = elim k [ ]
 
   pub point_when : {Z : Set} → Shape F p Z → Finite F p.lower × Finite F p.upper
       → worth F p.upper ≼ worth F p.lower → Point Z
@@ -81,9 +84,15 @@ module _ (F : Format) {p : Pair} where
 
   pub point_bounded : {Z : Set} → Shape F p Z → Point Z → Finite F p.lower × Finite F p.upper
   point_bounded (shape_span h (lower_finite l) (upper_finite u)) (one e) = (l, u)
+  point_bounded (shape_empty _) k = elim k [ ]
+  point_bounded (shape_span h (lower_finite l) (upper_infinite _)) k = elim k [ ]
+  point_bounded (shape_span h (lower_infinite _) _) k = elim k [ ]
 
   pub point_only : {Z : Set} → Shape F p Z → Point Z → worth F p.upper ≼ worth F p.lower
   point_only (shape_span h (lower_finite l) (upper_finite u)) (one e) = eq_ge e
+  point_only (shape_empty _) k = elim k [ ]
+  point_only (shape_span h (lower_finite l) (upper_infinite _)) k = elim k [ ]
+  point_only (shape_span h (lower_infinite _) _) k = elim k [ ]
 
 -- A question on the ends of a valid pair answers one on its set.
 module _ (F : Format) (p : Pair) (b : Bare F p) {t : Bool} where

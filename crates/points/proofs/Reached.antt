@@ -1,7 +1,7 @@
 -- A bound that results come up to is their true upper bound.
 use mathlib.Core.Logic.{◌⊎◌, ⊎_elim}
 use Rattle.meaning.specs.Fraction.{Fraction, ◌≼◌, ◌≺◌, whole}
-use Rattle.meaning.specs.Sets.{End, at, unbounded, span, Under, under, Member, Ordered}
+use Rattle.meaning.specs.Sets.{End, at, unbounded, span, Under, under, Member, Ordered, under_none}
 use Rattle.meaning.specs.Supremum.{UpperBound, AtMost, at_most, Supremum, Mirrored}
 use Rattle.meaning.proofs.FractionLaws.{le_refl, le_trans, lt_le, lt_le_trans, lt_not_le}
 use Rattle.meaning.proofs.SetLaws.{upper_member, upper_beyond}
@@ -19,6 +19,7 @@ pub record Reached (R : Fraction → Type 0) (u : End) : Type 0 where
 
 under_most : {r w : Fraction} {u : End} → Under r u → AtMost w u → r ≼ w
 under_most (under h) (at_most k) = le_trans h k
+under_most under_none h = elim h [ ]
 
 reached_least : {R : Fraction → Type 0} {u : End} → Reaches R u → (w : Fraction) → UpperBound R w → AtMost w u
 reached_least (reaches r m h) w b = at_most (le_trans h (b r m))

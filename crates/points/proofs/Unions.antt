@@ -22,6 +22,7 @@ hull_reached : {X Y : Set} {u : End} → Valid X → Valid Y → EitherUpper X Y
 hull_reached (valid_span h) (valid_span k) (upper_of_both g) = either_reached h k g
 hull_reached (valid_span h) valid_empty upper_of_first = reached_same (λ r m. inl m) (λ r. ⊎_elim (λ m. m) absurd) (span_reached h)
 hull_reached valid_empty (valid_span k) upper_of_second = reached_same (λ r m. inr m) (λ r. ⊎_elim absurd (λ m. m)) (span_reached k)
+hull_reached valid_empty valid_empty h = elim h [ ]
 
 mirror_valid : {X : Set} → Valid X → Valid (mirror X)
 mirror_valid valid_empty = valid_empty

@@ -6,7 +6,7 @@ use borrow.Author.Tests.{le-leb, lt-leb}
 use lib.Dec.{leb}
 use mathlib.Core.Logic.{◌⊎◌, inl, inr, ⊎_elim}
 use Rattle.meaning.specs.Fraction.{Fraction, ◌≼◌, ◌≺◌, negated}
-use Rattle.meaning.specs.Sets.{End, at, unbounded, span, Member, Under, under, over, Ordered, mirror_end}
+use Rattle.meaning.specs.Sets.{End, at, unbounded, span, Member, Under, under, Ordered, mirror_end}
 use Rattle.meaning.specs.Supremum.{UpperBound, AtMost, at_most, Supremum, Mirrored}
 use Rattle.meaning.proofs.FractionLaws.{le_refl, le_trans, lt_le, lt_not_le, le_or_lt}
 use Rattle.meaning.proofs.SetLaws.{upper_member, upper_beyond, mirror_ordered, member_mirror, mirror_member}

@@ -9,7 +9,7 @@ use borrow.Author.Tests.{lt-ltb, le-ltb, eq-eqb, ne_eqb}
 use lib.Dec.{ltb, eqb}
 use Rattle.patterns.proofs.ValueLaws.{le_or_lt as le-or-lt-nat}
 use Rattle.meaning.specs.Fraction.{Fraction, ◌≺◌, ◌≈◌, whole}
-use Rattle.meaning.specs.Sets.{End, at, unbounded, Set, empty, span, Ordered, ordered, Valid, valid_span}
+use Rattle.meaning.specs.Sets.{End, at, unbounded, Set, empty, span, Ordered, ordered, Valid, valid_span, no_lower, no_upper}
 use Rattle.meaning.specs.Classes.{BelowZero, below_zero, AtZero, at_zero, AboveZero, above_zero, LowerNegative, lower_number, lower_none, UpperPositive, upper_number, upper_none, ClassOf, is_e, is_m, is_n0, is_n1, is_p0, is_p1, is_z}
 use Rattle.meaning.proofs.FractionLaws.{le_trans, lt_not_le, lt_le, eq_le, eq_ge}
 use Rattle.theorem3.specs.Tables.{Sign, negative, none, positive, sign_by, lower_sign, upper_sign, class_by_signs, class_by, kind_of}
@@ -77,6 +77,12 @@ class_of_signs o (low_positive l) (high_positive h) = is_p1 l h
 class_of_signs (ordered o) (low_zero (at_zero l)) (high_negative (below_zero h)) = absurd (lt_not_le h (le_trans (eq_ge l) o))
 class_of_signs (ordered o) (low_positive (above_zero l)) (high_negative (below_zero h)) = absurd (lt_not_le h (le_trans (lt_le l) o))
 class_of_signs (ordered o) (low_positive (above_zero l)) (high_zero (at_zero h)) = absurd (lt_not_le l (le_trans o (eq_le h)))
+class_of_signs no_lower (low_zero l) (high_negative h) = elim l [ ]
+class_of_signs no_upper (low_zero l) (high_negative h) = elim h [ ]
+class_of_signs no_lower (low_positive l) (high_negative h) = elim l [ ]
+class_of_signs no_upper (low_positive l) (high_negative h) = elim h [ ]
+class_of_signs no_lower (low_positive l) (high_zero h) = elim l [ ]
+class_of_signs no_upper (low_positive l) (high_zero h) = elim h [ ]
 
 pub class_right : (X : Set) → Valid X → ClassOf X (class_by X)
 class_right empty v = is_e

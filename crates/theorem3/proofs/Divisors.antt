@@ -1,7 +1,7 @@
 -- Divisors: that there is one, and that the quotient's table divides by none of its ends that is 0.
 use Rattle.meaning.specs.Fraction.{Fraction, ◌≼◌, ◌≈◌, negated, whole}
 use Rattle.meaning.specs.Sets.{End, at, Set, span, Member, Ordered}
-use Rattle.meaning.specs.Classes.{Class, below_zero, AtZero, at_zero, above_zero, LowerNegative, lower_number, UpperPositive, upper_number, ClassOf, is_m, is_n0, is_n1, is_p0, is_p1, is_z}
+use Rattle.meaning.specs.Classes.{Class, below_zero, AtZero, at_zero, above_zero, LowerNegative, lower_number, UpperPositive, upper_number, ClassOf, is_m, is_n0, is_n1, is_p0, is_p1, is_z, lower_none, upper_none}
 use Rattle.meaning.proofs.FractionLaws.{le_refl, neg_le, neg_eq}
 use Rattle.meaning.proofs.SetLaws.{mirror_ordered, mirror_member}
 use Rattle.theorem3.specs.declared.Kind.{Kind}
@@ -32,9 +32,11 @@ apart n (at_zero e) = n e
 
 lower_apart : {c : End} → LowerNegative c → AtZero c → ⊥
 lower_apart (lower_number h) (at_zero e) = negative_not_zero h e
+lower_apart lower_none h = elim h [ ]
 
 upper_apart : {d : End} → UpperPositive d → AtZero d → ⊥
 upper_apart (upper_number h) (at_zero e) = positive_not_zero h e
+upper_apart upper_none h = elim h [ ]
 
 -- The table divides by no end that is 0.
 pub table_divides : (j : Kind) {c d : End} {k : Class} → ClassOf (span c d) k → Divides (quotient_corner j k) c d

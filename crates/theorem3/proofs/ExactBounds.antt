@@ -15,7 +15,6 @@ use Rattle.meaning.proofs.ExactEnds.{told_end}
 use Rattle.meaning.proofs.ExactLaws.{exact_of_ends, exact_of_none}
 use Rattle.theorem3.specs.Answer.{nothing, between, TrueBounds, no_results, some_results}
 use Rattle.theorem3.proofs.Rounding.{rounded}
-use Rattle.theorem3.proofs.Theorem3.{answer}
 
 -- The flags of any hull, by whether the true bounds are ends of the format.
 pub exact_between : (F : Format) {R : Fraction → Type 0} {l u : End} {s t : Bool} {z : Pair} → TrueBounds R (between l u)

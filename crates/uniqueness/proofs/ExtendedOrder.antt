@@ -7,12 +7,16 @@ use Rattle.uniqueness.specs.Order.{Compared, less, same, more, Order}
 
 irreflexive : (x : Extended) → Less x x → ⊥
 irreflexive (number x) (less_numbers h) = Fractions.lt_not_le h (Fractions.le_refl x)
+irreflexive minus_inf h = elim h [ ]
+irreflexive plus_inf h = elim h [ ]
 
 transitive : {x y z : Extended} → Less x y → Less y z → Less x z
 transitive (less_numbers h) (less_numbers k) = less_numbers (Fractions.lt_le_trans h (Fractions.lt_le k))
 transitive (less_numbers h) to_plus = to_plus
 transitive from_minus (less_numbers k) = from_minus
 transitive from_minus to_plus = across
+transitive to_plus h = elim h [ ]
+transitive across h = elim h [ ]
 
 symmetric : {x y : Extended} → Same x y → Same y x
 symmetric (same_numbers h) = same_numbers (Fractions.eq_sym h)
@@ -30,6 +34,7 @@ same_less (same_numbers h) (less_numbers k) = less_numbers (Fractions.le_lt_tran
 same_less (same_numbers h) to_plus = to_plus
 same_less minuses from_minus = from_minus
 same_less minuses across = across
+same_less pluses h = elim h [ ]
 
 compared_numbers : {x y : Fraction} → (x ≼ y) ⊎ (y ≺ x) → (y ≼ x) ⊎ (x ≺ y) → Compared Less Same (number x) (number y)
 compared_numbers (inr h) k = more (less_numbers h)

@@ -19,6 +19,7 @@ in_order_lem : (a b : End) → Ordered a b → Less (as_upper b) (as_lower a) �
 in_order_lem (at a) (at b) (ordered h) (less_numbers k) = lt_not_le k h
 in_order_lem unbounded (at b) h k = extended.irreflexive (number b) (extended.transitive k from_minus)
 in_order_lem unbounded unbounded h k = extended.irreflexive plus_inf (extended.transitive k across)
+in_order_lem (at a) unbounded h k = elim k [ ]
 
 -- Two sets have a state, and two valid sets only one.
 pub overlap_exists : (X Y : Set) → (s : State) × OverlapOf X Y s

@@ -1,0 +1,10 @@
+-- `judging::judge` meets its contract: each answer of the test is one judgement.
+use Rattle.meaning.specs.Statement.{first₁, right₁, bare_five, bare_good}
+use Rattle.truth.proofs.AnswerLaws.{said_yes, said_no}
+use Rattle.interval.proofs.judging.judge.Goals as goal
+
+pub returns-then-is_bare : goal.returns-then-is_bare
+returns-then-is_bare c = right₁ (bare_good (said_yes c.is_bare.ensures c.if-is_bare.true)) tt
+
+pub returns : goal.returns
+returns c = first₁ (bare_five (said_no c.is_bare.ensures c.if-is_bare.false))
