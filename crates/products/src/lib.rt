@@ -1,5 +1,7 @@
 // Upward rounding of products of doubles, and whether a product is exact: both together, or one alone. It stands on significands of
 // full length (`significands`) and on packing.
+#![tactic(auto)]
+
 ghost use Rattle.truth.specs.Answers.{Answers};
 ghost use Rattle.patterns.specs.Format.{binary64};
 ghost use Rattle.patterns.specs.Rounding.{Up, UpTold, Reached, product_of};

@@ -1,5 +1,7 @@
 // Upward rounding of quotients of doubles, and whether a quotient is exact: both together, or one alone. It stands on significands of
 // full length (`significands`) and on packing.
+#![tactic(auto)]
+
 ghost use Rattle.std.specs.Prelude.{◌≡◌};
 ghost use Rattle.truth.specs.Answers.{Answers};
 ghost use Rattle.patterns.specs.Format.{binary64};

@@ -1,5 +1,7 @@
 // What the roundings of sums, products and quotients share: significands of full length, signed exponents, and the sign of an answer.
 // It stands on packing, whose function brings them to full length.
+#![tactic(auto)]
+
 pub mod double;
 pub mod exponent;
 pub mod normal;

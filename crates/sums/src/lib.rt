@@ -1,5 +1,7 @@
 // Upward rounding of sums of doubles, in integers, and whether a sum is exact: both together, or one alone. It stands on signs and
 // exponents of doubles (`significands`) and on packing.
+#![tactic(auto)]
+
 ghost use Rattle.std.specs.Prelude.{◌≤◌};
 ghost use Rattle.truth.specs.Answers.{Answers};
 ghost use Rattle.patterns.specs.Format.{binary64};

@@ -1,5 +1,7 @@
 // The crate's class tables: what the kinds or classes of two operands choose, before anything is worked out. They call nothing,
 // and stand on the kinds and corners that theorem 3 speaks of.
+#![tactic(auto)]
+
 mod product;
 mod quotient;
 

@@ -23,4 +23,4 @@ returns c =
     let y : ℕ = value 52 (magnitude binary64 b) in
     sum_up binary64 a b c.requires.1
     (subst (λ (unlike : Bool). Up binary64 (signed (not (ltb a (2 ^ 63))) (choose unlike (x - y) (x + y)) 1) c.round_up.result) c.differ.ensures
-    (c.round_up.ensures _ 1 (lit< tt) c.combined.ensures.lowered.1))
+    (c.round_up.ensures _ 1 (lit< tt) c.combined.ensures.brackets))

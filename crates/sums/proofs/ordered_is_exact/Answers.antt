@@ -25,4 +25,4 @@ returns c =
     let y : ℕ = value 52 (magnitude binary64 b) in
     sum_reached binary64 a b c.requires.1
     (subst (λ (unlike : Bool). Answers (Reached binary64 (signed (not (ltb a (2 ^ 63))) (choose unlike (x - y) (x + y)) 1)) c.is_representable.result) c.differ.ensures
-    (reached_signed binary64 (not (ltb a (2 ^ 63))) (c.is_representable.ensures binary64 refl refl _ 1 (lit< tt) c.combined.ensures.lowered.1)))
+    (reached_signed binary64 (not (ltb a (2 ^ 63))) (c.is_representable.ensures binary64 refl refl _ 1 (lit< tt) c.combined.ensures.brackets)))

@@ -22,9 +22,9 @@ returns c =
     let apart = kept s.result s.ensures.1 ∙ s.ensures.0 in
     let whole : p.result.high * 2 ^ 64 + p.result.low ≡ x.significand * 2 ^ 10 * (y.significand * 2 ^ 10) =
     p.ensures ∙ ap₂ (λ (a b : ℕ). a * b) (shifted x.significand (search rules)) (shifted y.significand (search rules)) in
-    let (packs, fixed) = c.in_units.ensures in record {
-      packs = packs;
-      exponent = fixed.0 (x.exponent + y.exponent) 1134 apart;
-      brackets = fixed.1 _ (2 ^ 1178) (x.exponent + y.exponent) 1134 (pow_pos 1178) apart
+    let units = c.in_units.ensures in record {
+      packs = units.packs;
+      exponent = units.exponent (x.exponent + y.exponent) 1134 apart;
+      brackets = units.brackets _ (2 ^ 1178) (x.exponent + y.exponent) 1134 (pow_pos 1178) apart
           (product_cut 10 1178 1134 64 (x.exponent + y.exponent) x.significand y.significand p.result.high p.result.low refl whole (search rules));
     }

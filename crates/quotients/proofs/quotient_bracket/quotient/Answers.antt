@@ -16,9 +16,9 @@ returns c =
     let s = c.difference in
     let apart = kept s.result s.ensures.1 ∙ s.ensures.0 in
     let some : 0 < y.significand = omega (arith, c.requires.1.least) in
-    let (packs, fixed) = c.in_units.ensures in record {
-      packs = packs;
-      exponent = fixed.0 (x.exponent + 1014) y.exponent apart;
-      brackets = fixed.1 _ (y.significand * 2 ^ y.exponent) (x.exponent + 1014) y.exponent (mul-pos some (pow_pos y.exponent)) apart
+    let units = c.in_units.ensures in record {
+      packs = units.packs;
+      exponent = units.exponent (x.exponent + 1014) y.exponent apart;
+      brackets = units.brackets _ (y.significand * 2 ^ y.exponent) (x.exponent + 1014) y.exponent (mul-pos some (pow_pos y.exponent)) apart
           (quotient_cut 1074 1014 60 x.exponent y.exponent x.significand y.significand q.result.quotient q.result.rest refl some q.ensures.0 q.ensures.1);
     }
