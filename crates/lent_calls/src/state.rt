@@ -11,6 +11,6 @@ pub fn write_state(state: u8, output: &mut [u8])
 {
     let zeros = [0u8; DECORATED];
     let all = output.len();
-    bytes::copy(&zeros[..all], output);
+    output.copy_from_slice(&zeros[..all]);
     output[0] = state;
 }
