@@ -1,13 +1,10 @@
 -- Zero bytes over a whole list, and a state before them.
-use mathlib.Core.Path.{◌≡◌, refl, ◌∙◌, ap, ap₂}
-use mathlib.Core.List.{List, ◌∷◌, ◌++◌, append-nil}
+use mathlib.Core.Path.{◌≡◌, refl, ◌∙◌, ap}
+use mathlib.Core.List.{List, ◌∷◌}
 use Prim.Native.Nat.{ℕ, zero, suc, ◌-◌, ◌<◌, ◌≤◌}
-use native.Mathlib.Nat.{le_of_eq}
 use native.Mathlib.Omega.{arith}
-use lib.ListN.{length, take, drop, set, drop_of_length-le}
-use lib.Seq.{take_all}
+use lib.ListN.{length, take, set}
 use Rattle.meaning.specs.Requests.{zeros, write_state}
-use Rattle.ends_in_bytes.proofs.CopyLaws.{copied_over}
 
 -- Zero bytes, cut short.
 take_zeros : (n m : ℕ) → n ≤ m → take n (zeros m) ≡ zeros n
@@ -28,10 +25,6 @@ first_set (suc n) b h = ap (λ (k : ℕ). b ∷ zeros k) {x = n} {y = suc n - 1}
 
 -- A state's number, set over zero bytes that were copied over a whole list.
 pub state_written : (m : ℕ) (d : List ℕ) (b : ℕ) {l : List ℕ} → 0 < length d → length d ≤ m
-    → l ≡ take (length (take (length d) (zeros m))) (take (length d) (zeros m)) ++ drop (length (take (length d) (zeros m))) d
+    → l ≡ take (length d) (zeros m)
     → set l 0 b ≡ write_state (length d) b
-state_written m d b some fits e =
-    let long = zeros_long (length d) m fits in
-    ap (λ (t : List ℕ). set t 0 b)
-    (e ∙ ap (λ (k : ℕ). take k (take (length d) (zeros m)) ++ drop k d) long ∙ copied_over (length d) (take (length d) (zeros m)) d long refl ∙ take_zeros (length d) m fits)
-    ∙ first_set (length d) b some
+state_written m d b some fits e = ap (λ (t : List ℕ). set t 0 b) (e ∙ take_zeros (length d) m fits) ∙ first_set (length d) b some

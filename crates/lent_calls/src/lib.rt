@@ -1,5 +1,7 @@
 // What calls on lent bytes share: how long their bytes are, how a state and a truth value are written, and a refusal packed. It stands on the sizes of
 // intervals (`lent_intervals`).
+#![tactic(auto)]
+
 mod flag;
 mod number;
 mod state;
