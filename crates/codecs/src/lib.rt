@@ -1,5 +1,7 @@
 // Codecs on lent bytes: one interval from one byte order into the other. They stand on what reads and writes intervals in lent
 // bytes (`lent_intervals`).
+#![tactic(auto)]
+
 mod bare;
 mod decorated;
 
