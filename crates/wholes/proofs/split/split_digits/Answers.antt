@@ -3,13 +3,11 @@ use mathlib.Core.Path.{◌≡◌, sym, ◌∙◌, subst}
 use Prim.Native.Nat.{ℕ, ◌+◌, ◌-◌, ◌*◌, ◌/◌, ◌%◌, ◌^◌, ◌<◌, ◌≤◌}
 use native.Mathlib.Nat.{le_trans, mod-le}
 use native.Mathlib.Omega.{arith}
-use borrow.Author.Rules.{rules}
 use lib.Pow.{pow_pos, pow_mono, shl_exact}
 use Rattle.patterns.specs.Format.{binary64}
 use Rattle.wholes.specs.Enclosure.{HasDigits, is_whole, is_between}
 use Rattle.wholes.proofs.SplitLaws.{unit_inside, digits_whole, digits_between}
-use Rattle.wholes.proofs.split.split_digits.Statement.{statement}
-use Rattle.wholes.proofs.split.split_digits.Tie as tie
+use Rattle.wholes.proofs.split.split_digits.Goals as goal
 
 module _ {b : ℕ} (d : HasDigits binary64 b) where
   -- The unit as the shift makes it.
@@ -29,33 +27,24 @@ module _ {b : ℕ} (d : HasDigits binary64 b) where
   rest-inside : (b % 2 ^ 52 + 2 ^ 52) % unit ≤ b
   rest-inside = let l = d.from_one in le_trans (mod-le (b % 2 ^ 52 + 2 ^ 52) unit) (omega arith)
 
-rem-rest : tie.Need-nonzero-rem-rest
+pub nonzero_rem-rest : goal.nonzero_rem-rest
 unfolding unit
-rem-rest c = unit_positive c.requires
+nonzero_rem-rest c = unit_positive c.requires
 
-returns : tie.Need-returns
+pub returns-then-rest-eq0 : goal.returns-then-rest-eq0
 unfolding unit
-returns c = is_whole (digits_whole binary64 c.before.requires (unit-is c.before.requires) c.if1.true)
+returns-then-rest-eq0 c = is_whole (digits_whole binary64 c.requires (unit-is c.requires) c.if-rest-eq0.true)
 
-sub_low : tie.Need-overflow-sub-low
+pub overflow_sub-low : goal.overflow_sub-low
 unfolding unit
-sub_low c = rest-inside c.before.requires
+overflow_sub-low c = rest-inside c.requires
 
-add-t8 : tie.Need-overflow-add-t8
+pub overflow_add-result : goal.overflow_add-result
 unfolding unit
-add-t8 c = record { fits = omega (arith, unit-small c.before.requires) }
+overflow_add-result c = record { fits = omega (arith, unit-small c.requires) }
 
-div-t6 : tie.Need-nonzero-div-t6
+pub returns : goal.returns
 unfolding unit
-div-t6 c = unit_positive c.before.before.requires
-
-returns-2 : tie.Need-returns-2
-unfolding unit
-returns-2 c =
-    let d = c.before.before.requires in
-    is_between (digits_between binary64 d (unit-is d) c.before.if1.false c.side-of.ensures)
-
-pub split-digits-spec : {M : Type 1} → statement M
-split-digits-spec =
-    tie.close (tie.spec (search rules) (search rules) (search rules) (search rules) (search rules) rem-rest returns
-    sub_low add-t8 (search rules) div-t6 returns-2)
+returns c =
+    let d = c.requires in
+    is_between (digits_between binary64 d (unit-is d) c.if-rest-eq0.false c.side_of.ensures)
