@@ -25,7 +25,7 @@ use Rattle.points.proofs.Magnitudes.{abs_bounds}
 use Rattle.points.proofs.Exactly.{exact_number, exact_infinity}
 use Rattle.points.proofs.Answers.{answer}
 use Rattle.end_pairs.proofs.KeyLaws.{key_below, key_above, at_zero_lem}
-use Rattle.end_pairs.proofs.Shapes.{UpperShape, upper_finite, upper_infinite, Shape, shape_span, shape}
+use Rattle.end_pairs.proofs.Shapes.{UpperShape, upper_finite, upper_infinite, Shape, shape_empty, shape_span, shape}
 use Rattle.end_pairs.specs.Mirror.{outward_pair, mirror_pair}
 use Rattle.end_pairs.proofs.MirrorLaws.{mirror_set}
 use Rattle.end_pairs.proofs.ExactHull.{member_same, exact_hull}
@@ -83,6 +83,7 @@ module _ (F : Format) where
   not_minus_zero_lem (upper_finite f) (upper_number h) (numbers k) e =
       lt_not_le (lt_le_trans h k) (eq_le (subst⁻¹ (λ (n : ℕ). worth F n ≈ whole 0) e minus_zero))
   not_minus_zero_lem (upper_infinite q) p k e = omega (arith, infinity_below F)
+  not_minus_zero_lem {r = r} (upper_finite f) upper_none k e = elim k [ ]
 
   upper_exact_lem : {r : ℕ} {u : End} → UpperShape F r u → (r ≡ sign_bit F → ⊥) → UpperEnd F u r
   upper_exact_lem {r} (upper_finite f) n = exact_number F f n (eq_refl (worth F r))
@@ -104,3 +105,4 @@ module _ (F : Format) where
     where
       go : {X : Set} → Shape F x X → Valid X → ClassOf X class_m → SpanOf F x X
       go (shape_span h l u) (valid_span o) c = span_of o l u
+      go (shape_empty e) v c = elim c [ ]

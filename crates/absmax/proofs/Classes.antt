@@ -1,4 +1,6 @@
 -- What the classes that abs keeps, and those that it turns, say of the members.
+use mathlib.Core.Path.{◌≡◌, ap}
+use mathlib.Core.Logic.{◌⊎◌, inl, inr}
 use mathlib.Core.List.{List, [], ◌∷◌}
 use Prim.Native.Nat.{ℕ}
 use denote.Enum.Declared.{tag_of}
@@ -18,6 +20,19 @@ kept_tags = 0 ∷ 4 ∷ 5 ∷ 6 ∷ []
 
 abbrev pub turned_tags : List ℕ
 turned_tags = 2 ∷ 3 ∷ []
+
+-- A class that is one of the variants of an arm has one of the arm's tags.
+pub kept_tag : {k : IntervalClass}
+    → (k ≡ IntervalClass.E) ⊎ ((k ≡ IntervalClass.P0) ⊎ ((k ≡ IntervalClass.P1) ⊎ (k ≡ IntervalClass.Z)))
+    → OneOf kept_tags (tag_of the_type k)
+kept_tag (inl e) = inl (ap (tag_of the_type) e)
+kept_tag (inr (inl e)) = inr (inl (ap (tag_of the_type) e))
+kept_tag (inr (inr (inl e))) = inr (inr (inl (ap (tag_of the_type) e)))
+kept_tag (inr (inr (inr e))) = inr (inr (inr (ap (tag_of the_type) e)))
+
+pub turned_tag : {k : IntervalClass} → (k ≡ IntervalClass.N0) ⊎ (k ≡ IntervalClass.N1) → OneOf turned_tags (tag_of the_type k)
+turned_tag (inl e) = inl (ap (tag_of the_type) e)
+turned_tag (inr e) = inr (ap (tag_of the_type) e)
 
 pub kept_positive : {X : Set} (k : IntervalClass) → OneOf kept_tags (tag_of the_type k) → ClassOf X (class_of k)
     → (r : Fraction) → Member X r → whole 0 ≼ r

@@ -1,0 +1,17 @@
+-- `bare::min_of` meets its contract: there are no results on EMPTY.
+use Rattle.patterns.specs.Format.{binary64, infinity, sign_bit}
+use Rattle.meaning.specs.Pairs.{minus_infinity}
+use Rattle.meaning.specs.Points.{min}
+use Rattle.truth.proofs.AnswerLaws.{said_yes, said_no}
+use Rattle.end_pairs.proofs.EmptyLaws.{neither_empty, empty_hull₂}
+use Rattle.absmax.proofs.bare.min_of.Goals as goal
+
+pub returns-then-either_empty : goal.returns-then-either_empty
+unfolding infinity sign_bit minus_infinity
+returns-then-either_empty c = empty_hull₂ binary64 min _ _ (said_yes c.either_empty.ensures c.if-either_empty.true)
+
+pub min_of_spans-requires : goal.min_of_spans-requires
+min_of_spans-requires c = neither_empty binary64 c.requires (said_no c.either_empty.ensures c.if-either_empty.false)
+
+pub returns : goal.returns
+returns c = c.min_of_spans.ensures
