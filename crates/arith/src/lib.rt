@@ -1,4 +1,6 @@
 // Negation, sum, difference, product and quotient of bare intervals that were judged already, and which of their ends are exact.
+#![tactic(auto)]
+
 ghost use Rattle.patterns.specs.Format.{binary64};
 ghost use Rattle.meaning.specs.Pairs.{Bare, set_of};
 ghost use Rattle.meaning.specs.Points.{neg, add, sub, mul, div};

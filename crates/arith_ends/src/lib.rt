@@ -1,5 +1,7 @@
 // Upper ends of sums, products and quotients, rounded upward, whether they are exact, and what a divisor says of a quotient; a lower end
 // is the upper end of the mirror image, negated. It stands on the three roundings and on the corners that a table chooses.
+#![tactic(auto)]
+
 mod ends;
 mod exact;
 mod product;

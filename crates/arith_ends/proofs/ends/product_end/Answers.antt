@@ -6,22 +6,18 @@ use Rattle.theorem3.specs.Ends.{product_end}
 use Rattle.theorem3.proofs.UpEnd.{up_end, product_units}
 use Rattle.truth.proofs.AnswerLaws.{said_yes, said_no}
 use Rattle.arith_ends.proofs.EndLaws.{numbers, either_infinite}
-use Rattle.arith_ends.proofs.ends.product_end.Statement.{statement}
-use Rattle.arith_ends.proofs.ends.product_end.Tie as tie
+use Rattle.arith_ends.proofs.ends.product_end.Goals as goal
 
-product-up-requires : tie.Need-product-up-requires
-product-up-requires c κs = said_yes c.before.both-finite.ensures c.if1.true
+pub product_up-requires : goal.product_up-requires
+product_up-requires c = said_yes c.both_finite.ensures c.if-both_finite.true
 
-returns : tie.Need-returns
-returns c =
-    numbers binary64 product_end (λ y. refl) (said_yes c.before.before.both-finite.ensures c.before.if1.true)
+pub returns-then-both_finite : goal.returns-then-both_finite
+returns-then-both_finite c =
+    numbers binary64 product_end (λ y. refl) (said_yes c.both_finite.ensures c.if-both_finite.true)
     (up_end binary64 (product_units binary64 _ _) c.product_up.ensures)
 
-returns-2 : tie.Need-returns-2
+pub returns : goal.returns
 unfolding infinity sign_bit
-returns-2 c =
+returns c =
     either_infinite binary64 product_end (λ y. refl) (λ x. refl) (search rules) (search rules)
-    (said_no c.before.both-finite.ensures c.if1.false)
-
-pub product-end-spec : {M : Type 1} → statement M
-product-end-spec = tie.close (tie.spec (search rules) product-up-requires returns returns-2)
+    (said_no c.both_finite.ensures c.if-both_finite.false)

@@ -1,0 +1,22 @@
+-- `exact::product_is_exact` meets its contract: a product of two numbers is asked for, and an infinite end makes an infinite one.
+use mathlib.Core.Path.{refl}
+use borrow.Author.Rules.{rules}
+use Rattle.patterns.specs.Format.{binary64, sign_bit}
+use Rattle.theorem3.specs.Ends.{product_end}
+use Rattle.theorem3.proofs.UpEnd.{format_end, product_units}
+use Rattle.truth.proofs.AnswerLaws.{said_yes, said_no}
+use Rattle.arith_ends.proofs.EndLaws.{exact_numbers, exact_infinite, infinite_exact}
+use Rattle.arith_ends.proofs.exact.product_is_exact.Goals as goal
+
+pub is_exact_product-requires : goal.is_exact_product-requires
+is_exact_product-requires c = said_yes c.both_finite.ensures c.if-both_finite.true
+
+pub returns-then-both_finite : goal.returns-then-both_finite
+returns-then-both_finite c =
+    exact_numbers binary64 product_end (λ y. refl) (said_yes c.both_finite.ensures c.if-both_finite.true)
+    (format_end binary64 (product_units binary64 _ _) c.is_exact_product.ensures)
+
+pub returns : goal.returns
+unfolding sign_bit
+returns c =
+    exact_infinite binary64 product_end (λ y. refl) (λ x. refl) (infinite_exact binary64) (search rules) (search rules) (said_no c.both_finite.ensures c.if-both_finite.false)
