@@ -1,7 +1,7 @@
 -- Bytes that move to the front of a list.
 use mathlib.Core.Path.{◌≡◌, sym, ◌∙◌, ap}
 use mathlib.Core.List.{List, [], ◌∷◌, ◌++◌, append_assoc}
-use Prim.Native.Nat.{ℕ, suc, ◌+◌, ◌-◌, ◌<◌}
+use Prim.Native.Nat.{ℕ, suc, ◌+◌, ◌<◌}
 use native.Mathlib.Nat.{add_comm}
 use native.Mathlib.Omega.{arith}
 use lib.ListN.{length, get_or, take, drop, set, length-drop}
