@@ -49,6 +49,7 @@ module _ (F : Format) where
     pub reach_only : {b d : End} → UpperShape F n b → UpperShape F m d → Reaches R b d → K (key_of F n) (key_of F m) ⊎ (m ≡ infinity F)
     reach_only (upper_finite f) (upper_finite g) (reaches r) = inl (keyed.keys f.pattern g.pattern r)
     reach_only u (upper_infinite e) h = inr e
+    reach_only (upper_infinite e) (upper_finite g) h = elim h [ ]
 
     -- An upper end and a lower end.
     pub come_before : {b c : End} → UpperShape F n b → LowerShape F m c → K (key_of F n) (key_of F m) → Before R b c
@@ -59,6 +60,8 @@ module _ (F : Format) where
 
     pub before_only : {b c : End} → UpperShape F n b → LowerShape F m c → Before R b c → K (key_of F n) (key_of F m)
     before_only (upper_finite f) (lower_finite g) (before r) = keyed.keys f.pattern g.pattern r
+    before_only (upper_finite f) (lower_infinite e) h = elim h [ ]
+    before_only {c = c} (upper_infinite e) l h = elim h [ ]
 
   -- An upper end is not beyond an infinite one.
   pub below_infinity : {n m : ℕ} {b : End} → UpperShape F n b → m ≡ infinity F → key_of F n ≤ key_of F m

@@ -1,0 +1,12 @@
+-- `weak::reaches_down` meets its contract: what is below is above in the mirror.
+use Rattle.patterns.specs.Format.{binary64}
+use Rattle.comparison_laws.proofs.AscendingLaws.{weak}
+use Rattle.boolean.proofs.MirrorTests.{mirror_bares, answers_below}
+use Rattle.boolean.proofs.weak.reaches_down.Goals as goal
+
+pub reaches-requires : goal.reaches-requires
+reaches-requires c = mirror_bares binary64 c.requires c.mirrored.ensures c.mirrored-2.ensures
+
+pub returns : goal.returns
+returns c =
+    answers_below binary64 weak c.requires c.mirrored.ensures c.mirrored-2.ensures c.reaches.ensures
