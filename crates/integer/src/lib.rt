@@ -1,5 +1,7 @@
 // The functions whose results are whole numbers, on bare intervals, by their ends, which were judged already. They stand on
 // the same functions of one pattern (`wholes`).
+#![tactic(auto)]
+
 mod decoration;
 mod ends;
 mod image;

@@ -1,5 +1,7 @@
 // The names of the operations whose answer is an interval and of the comparisons, and the operation with a number. It stands on
 // definitions, and on the names of the whole-number functions (`wholes`).
+#![tactic(auto)]
+
 mod names;
 mod numbers;
 

@@ -1,4 +1,6 @@
 // The overlapping state of two intervals. The functions of this file take any value; those below stand on two ends that were judged.
+#![tactic(auto)]
+
 ghost use Rattle.patterns.specs.Format.{binary64};
 ghost use Rattle.meaning.specs.Overlap.{BareOverlap, DecOverlap};
 ghost use Rattle.interval.specs.IntervalMeaning.{pair_of};

@@ -1,5 +1,7 @@
 // The point functions whose results are whole numbers, on one finite bit pattern. They stand on definitions and on the order of
 // ends (`end_pairs`).
+#![tactic(auto)]
+
 mod functions;
 mod magnitudes;
 mod split;
