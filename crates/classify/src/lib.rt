@@ -1,4 +1,6 @@
 // The class of two ends by their signs.
+#![tactic(auto)]
+
 ghost use Rattle.patterns.specs.Format.{binary64};
 ghost use Rattle.meaning.specs.Classes.{ClassOf};
 ghost use Rattle.meaning.specs.Pairs.{Bare, set_of};

@@ -1,5 +1,7 @@
 // Decorated intervals by value, under inari's names: made from their parts, taken apart, and asked about. They stand on bare
 // intervals (`interval`) and on what goes with two ends (`decorations`).
+#![tactic(auto)]
+
 mod answers;
 mod decorated;
 mod made;

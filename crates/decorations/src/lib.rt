@@ -1,5 +1,7 @@
 // Decorations: their order, which of them go with two ends, and which one `set_dec` gives to them. They stand on tests of two
 // ends (`end_pairs`) and on what a call answers (`interval`).
+#![tactic(auto)]
+
 mod order;
 mod settling;
 mod types;

@@ -1,5 +1,7 @@
 // Two ends by value, before and after they are judged: their order, which of them are an interval's, and their zeros and signs.
 // It stands on definitions alone, and every interval stands on it.
+#![tactic(auto)]
+
 mod mirror;
 mod order;
 mod questions;

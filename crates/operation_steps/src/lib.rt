@@ -1,5 +1,7 @@
 // What operations share: operands that are wrong are refused, NaI is found, and answers are decorated. It stands on intervals
 // by value, and every operation stands on it.
+#![tactic(auto)]
+
 mod answer;
 mod judging;
 mod sound;
