@@ -1,5 +1,5 @@
 -- `chunk::answer_chunk` meets its contract. What holds at each turn: the first i requests are answered.
-use mathlib.Core.Path.{◌≡◌, refl, subst, subst⁻¹}
+use mathlib.Core.Path.{◌≡◌, subst, subst⁻¹}
 use Prim.Native.Nat.{ℕ, ◌+◌, ◌*◌, ◌-◌}
 use native.Mathlib.Omega.{arith}
 use borrow.Author.Rules.{rules}

@@ -1,14 +1,10 @@
 -- `chunk::reply` meets its contract. The call is lent seventeen zero bytes, and what it leaves there is copied behind its number and its place.
-use mathlib.Core.Path.{◌≡◌, refl, ◌∙◌, ap}
+use mathlib.Core.Path.{◌≡◌, ◌∙◌, ap}
 use mathlib.Core.List.{List, [], ◌∷◌, ◌++◌, append-nil}
 use Prim.Native.Nat.{ℕ}
 use native.Mathlib.Omega.{arith}
-use borrow.Author.Rules.{rules}
-use lib.ListN.{length}
 use Rattle.patterns.specs.Format.{binary64}
-use Rattle.meaning.specs.Requests.{zeros, decorated_size}
 use Rattle.request_laws.proofs.SmallLaws.{decorated_request_small}
-use Rattle.ends_in_bytes.proofs.CopyLaws.{copied_over}
 use Rattle.bench_turn.proofs.chunk.reply.Goals as goal
 
 pub overflow_cast-reply : goal.overflow_cast-reply
