@@ -15,7 +15,7 @@ fn reply(request: &[u8]) -> [u8; REPLY]
     let mut reply = [0u8; REPLY];
     reply[NUMBER_AT] = said.number as u8;
     reply[PLACE_AT] = said.place as u8;
-    bytes::copy(&answer, &mut reply[ANSWER_AT..]);
+    reply[ANSWER_AT..].copy_from_slice(&answer);
     reply
 }
 
@@ -30,7 +30,8 @@ pub fn answer_chunk(requests: &[u8], count: usize, replies: &mut [u8])
         let from_end = from + DECORATED_REQUEST;
         let answer = reply(&requests[from..from_end]);
         let to = REPLY * i;
-        bytes::copy(&answer, &mut replies[to..]);
+        let to_end = to + REPLY;
+        replies[to..to_end].copy_from_slice(&answer);
         i += 1;
     }
 }

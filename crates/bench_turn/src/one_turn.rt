@@ -52,7 +52,7 @@ fn close(arrived: usize, held: usize, answered: usize, written: usize, output: &
         },
         Ending::Last(number) => {
             let reply = last_reply(number);
-            bytes::copy(&reply, &mut output[written..]);
+            output[written..written + REPLY].copy_from_slice(&reply);
             Run {
                 held,
                 answered,

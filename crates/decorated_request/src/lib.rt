@@ -1,5 +1,7 @@
 // Decorated requests: 35 bytes, answered by 17. They stand on intervals in lent bytes (`lent_intervals`) and on the operations by
 // number (`operations`).
+#![tactic(auto)]
+
 ghost use Rattle.std.specs.Prelude.{◌≡◌, [], ◌∷◌, length};
 ghost use Rattle.patterns.specs.Format.{binary64};
 ghost use Rattle.meaning.specs.Requests as meant;
