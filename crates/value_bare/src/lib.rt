@@ -1,4 +1,6 @@
 // The operations on bare intervals: those of `by_value` and the crates beside it, or of `judged` by their names, and overlap, which has no name.
+#![tactic(auto)]
+
 use by_value::absmax::{abs, max, min};
 use by_value::arith::{add, div, mul, neg, sub};
 use by_value::set_op::{convex_hull, intersection};

@@ -1,4 +1,6 @@
 // The operations on decorated intervals: those of `by_value` and the crates beside it, or of `judged` by their names, and overlap, which has no name.
+#![tactic(auto)]
+
 use by_value::absmax::{abs_dec, max_dec, min_dec};
 use by_value::arith::{add_dec, div_dec, mul_dec, neg_dec, sub_dec};
 use by_value::set_op::{convex_hull_dec, intersection_dec};
