@@ -1,5 +1,7 @@
 // The bench program: decorated requests from standard input, and on standard output nineteen bytes for each. What is answered,
 // kept and written stands in `bench_turn`; here it is read and written.
+#![tactic(auto)]
+
 ghost use Rattle.std.specs.Prelude.{true, ◌≡◌, ◌≤◌, length};
 ghost use Rattle.bench_program.specs.Runs.{LeftByTurn, Ready, Onward};
 
