@@ -1,11 +1,13 @@
 // The bench program: decorated requests from standard input, and on standard output nineteen bytes for each. What is answered,
 // kept and written stands in `bench_turn`; here it is read and written.
+#![tactic(auto)]
+
 ghost use Rattle.std.specs.Prelude.{true, ◌≡◌, ◌≤◌, length};
 ghost use Rattle.bench_program.specs.Runs.{LeftByTurn, Ready, Onward};
 
 use bench_turn::{Run, turn};
 use lent_calls::{DECORATED_REQUEST, REPLY};
-use libc::{STDIN_FILENO, STDOUT_FILENO};
+use std::io::{Read, Stdin, Stdout, Write};
 
 // The requests that the buffers have room for, so that both take less than 28 KiB.
 const ROOM: usize = 512;
@@ -20,48 +22,53 @@ const OUTPUT: usize = REPLY * ROOM + REPLY;
 const TRIES: usize = 16;
 
 // The bytes that arrived, which stand at the front of the input. None arrive once the input has ended, or where it fails.
-fn arrive(input: &mut [u8]) -> usize
+fn arrive(stdin: &mut Stdin, input: &mut [u8]) -> usize
     ensures { result ≤ length input.new }
 {
-    let mut tries = 0;
-    while tries < TRIES {
-        let got = libc::read(STDIN_FILENO, input);
-        if 0 <= got {
-            return io::count(got, input);
+    for _ in 0..TRIES {
+        if let Ok(got) = stdin.read(input) {
+            return got;
         }
-        tries += 1;
     }
     0
 }
 
 // Writes what a turn left to be written, and nothing else.
-fn write_left(written: &[u8]) -> bool
+fn write_left(stdout: &mut Stdout, written: &[u8]) -> bool
     requires { LeftByTurn written.now }
 {
-    io::write_all(STDOUT_FILENO, written)
+    stdout.write_all(written).is_ok()
 }
 
 // Reads what has arrived, and answers each request that is whole. A failed write ends the run.
-fn answer_some(run: Run, input: &mut [u8], output: &mut [u8]) -> Run
+fn answer_some(
+    run: Run,
+    stdin: &mut Stdin,
+    stdout: &mut Stdout,
+    input: &mut [u8],
+    output: &mut [u8],
+) -> Run
     requires { Ready run.held run.answered input.old output.old }
     ensures { result.more ≡ true → Onward run.held run.answered input.old result.held result.answered input.new }
 {
     let held = run.held;
-    let arrived = arrive(&mut input[held..]);
+    let arrived = arrive(stdin, &mut input[held..]);
     let next = turn(run, arrived, input, output);
     let written = next.written;
-    if !write_left(&output[..written]) {
+    if !write_left(stdout, &output[..written]) {
         return Run::ENDED;
     }
     next
 }
 
-fn main() {
+fn main(rt: HostRuntime) {
+    let mut stdin = rt.stdin();
+    let mut stdout = rt.stdout();
     let mut input = [0u8; INPUT];
     let mut output = [0u8; OUTPUT];
     let mut run = Run::START;
     loop {
-        run = answer_some(run, &mut input, &mut output);
+        run = answer_some(run, &mut stdin, &mut stdout, &mut input, &mut output);
         if !run.more {
             return;
         }
