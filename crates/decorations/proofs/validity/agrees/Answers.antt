@@ -4,29 +4,30 @@ use Rattle.patterns.specs.Format.{binary64}
 use Rattle.meaning.specs.Decorations.{Ill, Trv, Def, Dac, Com}
 use Rattle.decorations.specs.DecorationMeaning.{decoration_of}
 use Rattle.decorations.proofs.AgreeLaws.{answers_agree}
+use borrow.Author.Rules.{rules}
 use Rattle.decorations.proofs.validity.agrees.Goals as goal
 
 pub returns-in-Ill : goal.returns-in-Ill
 returns-in-Ill c =
     answers_agree binary64 c.requires Ill (ap decoration_of c.in-Ill.is)
-    c.are_nans.ensures
+    (search rules)
 
 pub returns-in-Trv : goal.returns-in-Trv
 returns-in-Trv c =
     answers_agree binary64 c.requires Trv (ap decoration_of c.in-Trv.is)
-    c.is_bare.ensures
+    (search rules)
 
 pub returns-in-Def : goal.returns-in-Def
 returns-in-Def c =
     answers_agree binary64 c.requires Def (ap decoration_of c.in-Def.is)
-    c.is_proper.ensures
+    (search rules)
 
 pub returns-in-Dac : goal.returns-in-Dac
 returns-in-Dac c =
     answers_agree binary64 c.requires Dac (ap decoration_of c.in-Dac.is)
-    c.is_proper-in-Dac.ensures
+    (search rules)
 
 pub returns-in-Com : goal.returns-in-Com
 returns-in-Com c =
     answers_agree binary64 c.requires Com (ap decoration_of c.in-Com.is)
-    c.is_bounded.ensures
+    (search rules)
