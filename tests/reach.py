@@ -10,7 +10,7 @@ from pathlib import Path
 CRATES = Path(__file__).resolve().parent.parent / 'crates'
 ITEM = re.compile(r'( *)(pub )?(?:extern "C" )?(fn|const|enum) (\w+)')
 CONTRACT = re.compile(r' *(requires|ensures)\b')
-USE = re.compile(r'(?:pub )?use ([\w:]+);')
+USE = re.compile(r'(?:pub )?use ([\w:]+?)(?:::\{([\w, ]*)\})?;')
 NAME = re.compile(r'(\.?)\b((?:\w+::)*\w+)(\(?)')
 
 
@@ -40,18 +40,29 @@ def code(lines, start, indent):
             return
 
 
+def uses(lines):
+    """The lines of `use`, each whole."""
+    for at, line in enumerate(lines):
+        if line.startswith(('use ', 'pub use ')):
+            end = next(end for end in range(at, len(lines)) if lines[end].endswith(';'))
+            yield ' '.join(part.strip() for part in lines[at : end + 1]).replace('{ ', '{').replace(', }', '}').replace(',}', '}')
+
+
 class File:
     def __init__(self, path):
         self.crate, self.module = path.parts[-3], path.stem
         self.lines = [line.partition('//')[0].rstrip() for line in path.read_text().splitlines()]
         self.uses = {}
+        for line in uses(self.lines):
+            start, names = USE.match(line).groups()
+            for name in names.split(',') if names is not None else ['']:
+                whole = [*start.split('::'), *name.split()]
+                self.uses[whole[-1]] = whole
         self.items = []
         owner = ()
         for at, line in enumerate(self.lines):
-            used, found = USE.match(line), ITEM.match(line)
-            if used:
-                self.uses[used[1].split('::')[-1]] = used[1].split('::')
-            elif line.startswith('impl '):
+            found = ITEM.match(line)
+            if line.startswith('impl '):
                 owner = (line.split()[1],)
             elif line == '}':
                 owner = ()

@@ -1,4 +1,4 @@
-//! Links the archive that `rt staticlib host` writes: from target/staticlib of the repository, or from the folder that
+//! Links the archive that `tests/build` writes: from target/staticlib of the repository, or from the folder that
 //! MUENGLAVOT_ARCHIVE_DIR names.
 
 use std::env;
@@ -16,7 +16,7 @@ fn main() {
     println!("cargo:rerun-if-changed={}", archive.display());
     if !archive.is_file() {
         eprintln!("There is no archive {}.", archive.display());
-        eprintln!("Write it with `rt staticlib host`, or set {FOLDER} to the folder that has {ARCHIVE}.");
+        eprintln!("Write it with `tests/build`, or set {FOLDER} to the folder that has {ARCHIVE}.");
         exit(1);
     }
     println!("cargo:rustc-link-search=native={}", folder.display());

@@ -1,4 +1,6 @@
 // The comparisons of two intervals passed by value, under the names of the crate's file boolean.rs.
+#![tactic(auto)]
+
 ghost use Rattle.patterns.specs.Format.{binary64};
 ghost use Rattle.meaning.specs.Comparisons as comparisons;
 ghost use Rattle.meaning.specs.Comparisons.{BareComparison, DecComparison};

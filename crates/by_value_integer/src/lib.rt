@@ -1,4 +1,6 @@
 // The functions whose results are whole numbers, on intervals passed by value, under the names of the crate's file integer.rs.
+#![tactic(auto)]
+
 ghost use Rattle.patterns.specs.Format.{binary64};
 ghost use Rattle.meaning.specs.Points as points;
 ghost use Rattle.meaning.specs.Statement.{Bare₁, Decorated₁};

@@ -1,5 +1,7 @@
 // The arithmetic operations on bare intervals that were judged already, with the exactness of each end. They stand on the operations by
 // name (`operations`), whose answers they give, and on what makes an end exact (`arith`).
+#![tactic(auto)]
+
 ghost use Rattle.std.specs.Prelude.{◌≡◌};
 ghost use Rattle.patterns.specs.Format.{binary64};
 ghost use Rattle.meaning.specs.Pairs.{Bare, set_of};

@@ -1,5 +1,7 @@
 // Bare requests that report which ends are exact: 33 bytes, answered by 18. They stand on the arithmetic operations that report it
 // (`exact_operations`), and on operands that are read as the bare request reads them (`request_operands`).
+#![tactic(auto)]
+
 ghost use Rattle.std.specs.Prelude.{[], ◌∷◌, ◌≡◌, length};
 ghost use Rattle.patterns.specs.Format.{binary64};
 ghost use Rattle.meaning.specs.Calls.{Called};

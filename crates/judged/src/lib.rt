@@ -1,5 +1,7 @@
 // Any operation or comparison by name on any values: operands are judged first, the first before the second. It stands on those by
 // name on operands that were judged (`operations`, `exact_operations`, `boolean`).
+#![tactic(auto)]
+
 ghost use Rattle.patterns.specs.Format.{binary64};
 ghost use Rattle.meaning.specs.Statement.{Bare₁, Bare₂, Decorated₁, Decorated₂};
 ghost use Rattle.meaning.specs.Points.{neg};

@@ -1,5 +1,6 @@
 // Why a call is refused: one struct and the numbers of document 01, for calls on values, on bytes and on columns. It stands on nothing,
 // and definitions and code share it.
+#![tactic(auto)]
 
 // The refusal of a call: its number, the place of the operand that is wrong, and an index. The place and the index are 0
 // where there is none.

@@ -1,8 +1,12 @@
 // Judges stored cases of the three roundings, which it reads from standard input, and writes how many are right.
-use libc::{STDIN_FILENO, STDOUT_FILENO};
+#![tactic(auto)]
+
+ghost use Rattle.std.specs.Prelude.{◌≤◌, length};
+
 use rounding_runs::cases::{CASE, Tally, count, first_wrong};
 use rounding_runs::roundings::Operation;
-use std::num::wrapping_add_usize;
+use std::io;
+use std::io::{Read, Stdin};
 
 // Bytes that one turn reads: 2,600 whole cases.
 const CHUNK: usize = 65000;
@@ -22,15 +26,30 @@ struct Found {
 // Two tallies together. No input has so many cases that a sum wraps.
 fn plus(t: Tally, u: Tally) -> Tally {
     Tally {
-        right: wrapping_add_usize(t.right, u.right),
-        wrong: wrapping_add_usize(t.wrong, u.wrong),
+        right: t.right.wrapping_add(u.right),
+        wrong: t.wrong.wrapping_add(u.wrong),
     }
 }
 
+// Reads until the buffer is full, the input ends or a read fails, and counts the bytes that were read.
+fn read_full(input: &mut Stdin, buffer: &mut [u8]) -> usize
+    ensures { result ≤ length buffer.new }
+{
+    let mut done = 0;
+    while done < buffer.len() {
+        match input.read(&mut buffer[done..]) {
+            Ok(0) => break,
+            Ok(n) => done += n,
+            Err(_) => break,
+        }
+    }
+    done
+}
+
 // One turn. A last piece that is no whole case is found wrong.
-fn judge_some(found: Found) -> Found {
+fn judge_some(input: &mut Stdin, found: Found) -> Found {
     let mut buffer = [0u8; CHUNK];
-    let n = io::read_full(STDIN_FILENO, &mut buffer);
+    let n = read_full(input, &mut buffer);
     let sums = plus(found.sums, count(&buffer[..n], Operation::Sum));
     let products = plus(found.products, count(&buffer[..n], Operation::Product));
     let quotients = plus(found.quotients, count(&buffer[..n], Operation::Quotient));
@@ -50,7 +69,7 @@ fn judge_some(found: Found) -> Found {
         sums,
         products,
         quotients,
-        index: wrapping_add_usize(found.index, first),
+        index: found.index.wrapping_add(first),
         wrong: first != n / CASE || n % CASE != 0,
         more,
     }
@@ -58,7 +77,7 @@ fn judge_some(found: Found) -> Found {
 
 // All of the input. A proved loop has to end, and nothing says that the input does, so the turns are counted down,
 // from a number that no run uses up.
-fn judge_all() -> Found {
+fn judge_all(input: &mut Stdin) -> Found {
     let none = Tally { right: 0, wrong: 0 };
     let mut found = Found {
         sums: none,
@@ -70,37 +89,24 @@ fn judge_all() -> Found {
     };
     let mut turns = u64::MAX;
     while turns > 0 && found.more {
-        found = judge_some(found);
+        found = judge_some(input, found);
         turns -= 1;
     }
     found
 }
 
-fn write(text: &[u8]) {
-    io::write_all(STDOUT_FILENO, text);
+fn write_tally(rt: &HostRuntime, name: &str, t: Tally) -> io::Result<()> {
+    println!(rt; "{name}: {} right, {} wrong", t.right, t.wrong)
 }
 
-fn write_number(n: usize) {
-    io::print_decimal(STDOUT_FILENO, n as u64);
-}
-
-fn write_tally(name: &[u8], t: Tally) {
-    write(name);
-    write(b": ");
-    write_number(t.right);
-    write(b" right, ");
-    write_number(t.wrong);
-    write(b" wrong\n");
-}
-
-fn main() {
-    let found = judge_all();
-    write_tally(b"sum", found.sums);
-    write_tally(b"product", found.products);
-    write_tally(b"quotient", found.quotients);
+fn main(rt: HostRuntime) -> io::Result<()> {
+    let mut input = rt.stdin();
+    let found = judge_all(&mut input);
+    write_tally(&rt, "sum", found.sums)?;
+    write_tally(&rt, "product", found.products)?;
+    write_tally(&rt, "quotient", found.quotients)?;
     if found.wrong {
-        write(b"first wrong case: ");
-        write_number(found.index);
-        write(b"\n");
+        println!(rt; "first wrong case: {}", found.index)?;
     }
+    Ok(())
 }

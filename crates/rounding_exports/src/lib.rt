@@ -1,4 +1,6 @@
 // The three roundings over columns of patterns, for the benchmark's host to call.
+#![tactic(auto)]
+
 ghost use Rattle.std.specs.Prelude.{◌≡◌, length};
 ghost use Rattle.truth.specs.Answers.{Answers};
 ghost use Rattle.rounding_exports.specs.Columns.{Filled, FilledOrRefused, TakesRows};

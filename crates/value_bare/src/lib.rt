@@ -1,7 +1,9 @@
 // The operations on bare intervals: those of `by_value` and the crates beside it, or of `judged` by their names, and overlap, which has no name.
-use by_value::absmax::{abs, max, min};
-use by_value::arith::{add, div, mul, neg, sub};
-use by_value::set_op::{convex_hull, intersection};
+#![tactic(auto)]
+
+use by_value::absmax_by_value::{abs, max, min};
+use by_value::arith_by_value::{add, div, mul, neg, sub};
+use by_value::set_op_by_value::{convex_hull, intersection};
 use by_value_boolean::{
     disjoint, eq, interior, less, precedes, strict_less, strict_precedes, subset,
 };

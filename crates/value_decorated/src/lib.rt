@@ -1,7 +1,9 @@
 // The operations on decorated intervals: those of `by_value` and the crates beside it, or of `judged` by their names, and overlap, which has no name.
-use by_value::absmax::{abs_dec, max_dec, min_dec};
-use by_value::arith::{add_dec, div_dec, mul_dec, neg_dec, sub_dec};
-use by_value::set_op::{convex_hull_dec, intersection_dec};
+#![tactic(auto)]
+
+use by_value::absmax_by_value::{abs_dec, max_dec, min_dec};
+use by_value::arith_by_value::{add_dec, div_dec, mul_dec, neg_dec, sub_dec};
+use by_value::set_op_by_value::{convex_hull_dec, intersection_dec};
 use by_value_boolean::{
     disjoint_dec, eq_dec, interior_dec, less_dec, precedes_dec, strict_less_dec,
     strict_precedes_dec, subset_dec,

@@ -1,5 +1,7 @@
 // The arithmetic operations that report exactness, by number: those of `by_value`.
-use by_value::arith::{add_exact, div_exact, mul_exact, neg_exact, sub_exact};
+#![tactic(auto)]
+
+use by_value::arith_by_value::{add_exact, div_exact, mul_exact, neg_exact, sub_exact};
 use interval::Interval;
 use judged::ExactAnswer;
 use operation_names::{Arithmetic, AskedExact, numbered_exact};

@@ -12,7 +12,7 @@ fn first_sixteen(operand: &[u8]) -> [u8; BARE]
     requires { 16 ≤ length operand.now }
 {
     let mut first = [0u8; BARE];
-    bytes::copy(&operand[0..BARE], &mut first);
+    first.copy_from_slice(&operand[0..BARE]);
     first
 }
 

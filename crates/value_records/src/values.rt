@@ -27,7 +27,7 @@ pub fn operand_at(input: &[u8], start: usize) -> [u8; DECORATED]
 {
     let mut operand = [0u8; DECORATED];
     let end = start + DECORATED;
-    bytes::copy(&input[start..end], &mut operand);
+    operand.copy_from_slice(&input[start..end]);
     operand
 }
 

@@ -17,10 +17,14 @@
 // A reply is nineteen bytes: number, place and answer (crates/value_records/src/replies.rt). Number 3 says that no function has the
 // record's number, and 4 with a place that an operand of which the function takes the decoration has a byte that is none. A last
 // piece that is no whole record gets number 1.
+#![tactic(auto)]
+
+ghost use Rattle.std.specs.Prelude.{◌≤◌, length};
+
 use lent_calls::{DECORATED_REQUEST, FIRST_AT};
 use lent_intervals::DECORATED;
-use libc::{STDIN_FILENO, STDOUT_FILENO};
 use refusals::Refusal;
+use std::io::{Read, Stdin, Stdout, Write};
 use value_records::replies::{Said, refused, unknown_function, written};
 use value_records::values::{operand_at, operand_of};
 
@@ -67,30 +71,47 @@ fn answer(number: u8, first: [u8; DECORATED], second: [u8; DECORATED]) -> Said {
     }
 }
 
+// Reads until the buffer is full, the input ends or a read fails, and counts the bytes that were read.
+fn read_full(input: &mut Stdin, buffer: &mut [u8]) -> usize
+    ensures { result ≤ length buffer.new }
+{
+    let mut done = 0;
+    while done < buffer.len() {
+        match input.read(&mut buffer[done..]) {
+            Ok(0) => break,
+            Ok(n) => done += n,
+            Err(_) => break,
+        }
+    }
+    done
+}
+
 // Answers the next record, and says whether there was one.
-fn answer_next() -> bool {
+fn answer_next(stdin: &mut Stdin, stdout: &mut Stdout) -> bool {
     let mut input = [0u8; RECORD];
-    let arrived = io::read_full(STDIN_FILENO, &mut input);
+    let arrived = read_full(stdin, &mut input);
     if arrived == 0 {
         return false;
     }
     if arrived < RECORD {
         let reply = written(refused(Refusal::WRONG_LENGTH));
-        io::write_all(STDOUT_FILENO, &reply);
+        let _ = stdout.write_all(&reply);
         return false;
     }
     let first = operand_at(&input, FIRST_AT);
     let second = operand_at(&input, SECOND_AT);
     let reply = written(answer(input[0], first, second));
-    io::write_all(STDOUT_FILENO, &reply)
+    stdout.write_all(&reply).is_ok()
 }
 
 // A proved loop has to end, and nothing says that the input does, so the records are counted down from a number that no run
 // uses up.
-fn main() {
+fn main(rt: HostRuntime) {
+    let mut stdin = rt.stdin();
+    let mut stdout = rt.stdout();
     let mut left = u64::MAX;
     while left > 0 {
-        if !answer_next() {
+        if !answer_next(&mut stdin, &mut stdout) {
             return;
         }
         left -= 1;

@@ -2,7 +2,7 @@
 //!
 //! An operand's bytes, the operation numbers and the numbers of a refusal are described in that header.
 //!
-//! One step comes before `cargo test --offline` and `cargo build`: `rt staticlib host` in the repository writes the archive
+//! One step comes before `cargo test --offline` and `cargo build`: `tests/build` in the repository writes the archive
 //! that build.rs links. Where it lies elsewhere, MUENGLAVOT_ARCHIVE_DIR names the folder that has libhost.a.
 //!
 //! ```
