@@ -7,7 +7,7 @@ use Rattle.bench_program.proofs.OnwardLaws.{held_stays, onward, written_fits, le
 use Rattle.bench_program.proofs.answer_some.Goals as goal
 
 pub slice_bounds-write_left-end : goal.slice_bounds-write_left-end
-slice_bounds-write_left-end c = written_fits c.turn-next.ensures
+slice_bounds-write_left-end c = omega (arith, written_fits c.turn-next.ensures)
 
 pub write_left-requires : goal.write_left-requires
 write_left-requires c = left_by_turn c.turn-next.ensures

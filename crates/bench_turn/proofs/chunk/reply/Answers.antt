@@ -8,10 +8,14 @@ use Rattle.request_laws.proofs.SmallLaws.{decorated_request_small}
 use Rattle.bench_turn.proofs.chunk.reply.Goals as goal
 
 pub overflow_cast-reply : goal.overflow_cast-reply
-overflow_cast-reply c = omega (arith, (decorated_request_small binary64 c.request_decorated-said.ensures).number≤6)
+overflow_cast-reply c =
+    let small = decorated_request_small binary64 c.request_decorated-said.ensures in
+    omega (arith, small.number≤6, small.place≤2)
 
 pub overflow_cast-reply-2 : goal.overflow_cast-reply-2
-overflow_cast-reply-2 c = omega (arith, (decorated_request_small binary64 c.request_decorated-said.ensures).place≤2)
+overflow_cast-reply-2 c =
+    let small = decorated_request_small binary64 c.request_decorated-said.ensures in
+    omega (arith, small.number≤6, small.place≤2)
 
 pub returns : goal.returns
 returns c =
