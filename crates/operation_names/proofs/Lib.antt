@@ -1,2 +1,3 @@
 -- Laws of operation numbers.
+pub mod NumberLaws
 pub mod AskedLaws
