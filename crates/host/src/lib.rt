@@ -1,5 +1,7 @@
 // The calls for a host in C. Each reads one slice, writes the other, and returns the number plus 256 times the place; they stand on
 // the requests and the codecs.
+#![tactic(auto)]
+
 ghost use Rattle.patterns.specs.Format.{binary64};
 ghost use Rattle.meaning.specs.Bytes.{big_endian, little_endian};
 ghost use Rattle.meaning.specs.Forms.{bare_form, decorated_form};
