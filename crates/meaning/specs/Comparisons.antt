@@ -7,7 +7,7 @@ use Rattle.meaning.specs.Sets.{Set, Member}
 use Rattle.meaning.specs.Pairs.{Pair, NaNs, set_of}
 use Rattle.meaning.specs.Statement.{DecPair, Outcome, Answered₂, JudgedBare, JudgedDecorated}
 
--- "equal, subset, interior, disjoint, less, strict_less, precedes, strict_precedes"
+-- "equal, subset, interior, disjoint, less, strictLess, precedes, strictPrecedes"
 pub data Comparison : Type 0 where
   equal subset interior disjoint less strict_less precedes strict_precedes : Comparison
 
@@ -36,7 +36,7 @@ abbrev pub Differs : Fraction → Fraction → Type 0
 Differs a b = a ≈ b → ⊥
 
 -- equal: "∀a ∃b a = b ∧ ∀b ∃a b = a"; subset: "∀a ∃b a = b"; interior: "∀a ∃b a < b ∧ ∀a ∃b b < a"; disjoint: "∀a ∀b a ≠ b";
--- less: "∀a ∃b a ≤ b ∧ ∀b ∃a a ≤ b"; strict_less: "∀a ∃b a < b ∧ ∀b ∃a a < b"; precedes: "∀a ∀b a ≤ b"; strict_precedes: "∀a ∀b a < b".
+-- less: "∀a ∃b a ≤ b ∧ ∀b ∃a a ≤ b"; strictLess: "∀a ∃b a < b ∧ ∀b ∃a a < b"; precedes: "∀a ∀b a ≤ b"; strictPrecedes: "∀a ∀b a < b".
 abbrev pub Compares : Comparison → Set → Set → Type 0
 Compares equal A B = EachSome ◌≈◌ A B × EachSome ◌≈◌ B A
 Compares subset A B = EachSome ◌≈◌ A B

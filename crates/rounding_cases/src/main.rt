@@ -5,7 +5,6 @@ ghost use Rattle.std.specs.Prelude.{◌≤◌, length};
 
 use rounding_runs::cases::{CASE, Tally, count, first_wrong};
 use rounding_runs::roundings::Operation;
-use std::io;
 use std::io::{Read, Stdin};
 
 // Bytes that one turn reads: 2,600 whole cases.
@@ -95,18 +94,18 @@ fn judge_all(input: &mut Stdin) -> Found {
     found
 }
 
-fn write_tally(rt: &HostRuntime, name: &str, t: Tally) -> io::Result<()> {
-    println!(rt; "{name}: {} right, {} wrong", t.right, t.wrong)
+// A line that cannot be written is passed over.
+fn write_tally(rt: &HostRuntime, name: &str, t: Tally) {
+    let _ = println!(rt; "{name}: {} right, {} wrong", t.right, t.wrong);
 }
 
-fn main(rt: HostRuntime) -> io::Result<()> {
+fn main(rt: HostRuntime) {
     let mut input = rt.stdin();
     let found = judge_all(&mut input);
-    write_tally(&rt, "sum", found.sums)?;
-    write_tally(&rt, "product", found.products)?;
-    write_tally(&rt, "quotient", found.quotients)?;
+    write_tally(&rt, "sum", found.sums);
+    write_tally(&rt, "product", found.products);
+    write_tally(&rt, "quotient", found.quotients);
     if found.wrong {
-        println!(rt; "first wrong case: {}", found.index)?;
+        let _ = println!(rt; "first wrong case: {}", found.index);
     }
-    Ok(())
 }
