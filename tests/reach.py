@@ -1,6 +1,7 @@
 """What the code of the crates reaches, by names: the functions that a function calls, and the constants and enums that it uses.
 
-A method is reached by its name alone, whichever type has it.
+A method is reached by its name alone, whichever type or trait has it, and so a trait's method reaches those of its impls; `?` reaches each `from`. A path to a function reaches it, also where it is passed. The methods of a public trait are public functions of it; those of its
+impls stand below their types.
 """
 
 import re
@@ -9,6 +10,9 @@ from pathlib import Path
 
 CRATES = Path(__file__).resolve().parent.parent / 'crates'
 ITEM = re.compile(r'( *)(pub )?(?:extern "C" )?(fn|const|enum) (\w+)')
+OWNER = re.compile(r'(?:impl(?:<.*?>)? (?:.* for )?|(pub )?trait )(\w+)')
+TURBOFISH = re.compile(r'::<[^<>]*>')
+PARAMETER = re.compile(r'(?:[A-Z]|Self)::(\w+)')
 CONTRACT = re.compile(r' *(requires|ensures)\b')
 USE = re.compile(r'(?:pub )?use ([\w:]+?)(?:::\{([\w, ]*)\})?;')
 NAME = re.compile(r'(\.?)\b((?:\w+::)*\w+)(\(?)')
@@ -19,7 +23,7 @@ class Item:
     """A function, a constant or an enum: where it is declared, and the lines of its code, which a contract is no part of."""
 
     crate: str
-    path: tuple  # the file's name, the type of a method or of a constant of a type, and the item's own name
+    path: tuple  # the file's name, the type or the trait of a method or of a constant, and the item's own name
     kind: str
     public: bool
     asks: bool  # whether it has a `requires`
@@ -36,7 +40,7 @@ def code(lines, start, indent):
         stated = (stated or CONTRACT.match(lines[at])) and lines[at] != indent + '{'
         if not stated:
             yield at
-        if lines[at] in (indent + '}', indent + '};', indent + '];') or at == start and lines[at].endswith(';'):
+        if lines[at] in (indent + '}', indent + '};', indent + '];') or (at == start or stated) and lines[at].endswith(';'):
             return
 
 
@@ -59,15 +63,16 @@ class File:
                 whole = [*start.split('::'), *name.split()]
                 self.uses[whole[-1]] = whole
         self.items = []
-        owner = ()
+        owner, in_trait = (), False
         for at, line in enumerate(self.lines):
-            found = ITEM.match(line)
-            if line.startswith('impl '):
-                owner = (line.split()[1],)
+            found, owned = ITEM.match(line), OWNER.match(line)
+            if owned:
+                in_trait, owner = bool(owned[1]), (owned[2],)
             elif line == '}':
-                owner = ()
+                owner, in_trait = (), False
             elif found:
                 indent, public, kind, name = found.groups()
+                public = public or in_trait and kind == 'fn'
                 lines = tuple(code(self.lines, at, indent))
                 asks = any(line.lstrip().startswith('requires') for line in self.lines[at : lines[-1]])
                 self.items.append(Item(self.crate, (self.module, *owner, name), kind, bool(public), asks, lines))
@@ -92,12 +97,19 @@ def named(file, name):
 def used(item):
     """What an item's own code names."""
     file = FILES[item.crate, item.path[0]]
-    for dot, name, call in NAME.findall(' '.join(file.lines[at] for at in item.lines)):
-        if dot:
+    text = TURBOFISH.sub('', ' '.join(file.lines[at] for at in item.lines))
+    if item.public and len(item.path) == 3:
+        yield from (other for other in ITEMS if other.path[-1] == item.path[-1] and len(other.path) == 3 and not other.public)
+    if '?' in text:
+        yield from (other for other in ITEMS if other.path[-1] == 'from' and len(other.path) == 3)
+    for dot, name, call in NAME.findall(text):
+        parameter = PARAMETER.fullmatch(name)
+        if dot or parameter:
+            name = parameter[1] if parameter else name
             found = [other for other in ITEMS if call and len(other.path) == 3 and other.path[-1] == name]
         else:
             found = named(file, name)
-        yield from (other for other in found if call or other.kind != 'fn')
+        yield from (other for other in found if call or other.kind != 'fn' or '::' in name)
 
 
 def reached(items):

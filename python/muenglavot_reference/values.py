@@ -162,8 +162,8 @@ CONSTANTS = {
 
 # Where the numbers of the operations start: each by its own function, then by its name.
 OPERATION_NUMBERS = (
-    (0, DECORATED, '{}_dec'), (32, BARE, '{}'),
-    (160, DECORATED, '{}_dec by name'), (192, BARE, '{} by name'))
+    (0, DECORATED, 'decorated {}'), (32, BARE, '{}'),
+    (160, DECORATED, 'decorated {} by name'), (192, BARE, '{} by name'))
 # Where those of the arithmetic operations start that report exact ends.
 EXACT_NUMBERS = 224
 # Where the numbers of the other functions start, in their order.

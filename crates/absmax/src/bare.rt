@@ -1,6 +1,6 @@
 // The operations, by classes and ends.
 ghost use Rattle.patterns.specs.Format.{binary64};
-ghost use Rattle.meaning.specs.Pairs.{Proper, Bare, set_of};
+ghost use Rattle.meaning.specs.Pairs.{Bare, set_of};
 ghost use Rattle.meaning.specs.Points.{abs, max, min};
 ghost use Rattle.meaning.specs.Results.{Result₁, Result₂, point};
 ghost use Rattle.meaning.specs.Statement.{HullOf};
@@ -31,18 +31,8 @@ pub fn abs_of(x: EndPair) -> EndPair
     }
 }
 
-// [max {a, c}, max {b, d}] for operands with members.
-fn max_of_spans(x: EndPair, y: EndPair) -> EndPair
-    requires { Proper binary64 (pair_of x) × Proper binary64 (pair_of y) }
-    ensures { HullOf binary64 (Result₂ (point max) (set_of binary64 (pair_of x)) (set_of binary64 (pair_of y))) (pair_of result) }
-{
-    canonical(EndPair {
-        a: greater(x.a, y.a),
-        b: greater(x.b, y.b),
-    })
-}
-
-// The maximum of two intervals, EMPTY if an operand is.
+// The maximum of two intervals, [max {a, c}, max {b, d}], or EMPTY if an operand is.
+// max_of and min_of stay apart: one function over the choice would have to ask of it that the chosen ends are in order.
 pub fn max_of(x: EndPair, y: EndPair) -> EndPair
     requires { Bare binary64 (pair_of x) × Bare binary64 (pair_of y) }
     ensures { HullOf binary64 (Result₂ (point max) (set_of binary64 (pair_of x)) (set_of binary64 (pair_of y))) (pair_of result) }
@@ -50,21 +40,13 @@ pub fn max_of(x: EndPair, y: EndPair) -> EndPair
     if either_empty(x, y) {
         return EndPair::EMPTY;
     }
-    max_of_spans(x, y)
-}
-
-// [min {a, c}, min {b, d}] for operands with members.
-fn min_of_spans(x: EndPair, y: EndPair) -> EndPair
-    requires { Proper binary64 (pair_of x) × Proper binary64 (pair_of y) }
-    ensures { HullOf binary64 (Result₂ (point min) (set_of binary64 (pair_of x)) (set_of binary64 (pair_of y))) (pair_of result) }
-{
     canonical(EndPair {
-        a: lesser(x.a, y.a),
-        b: lesser(x.b, y.b),
+        a: greater(x.a, y.a),
+        b: greater(x.b, y.b),
     })
 }
 
-// The minimum of two intervals, EMPTY if an operand is.
+// The minimum of two intervals, [min {a, c}, min {b, d}], or EMPTY if an operand is.
 pub fn min_of(x: EndPair, y: EndPair) -> EndPair
     requires { Bare binary64 (pair_of x) × Bare binary64 (pair_of y) }
     ensures { HullOf binary64 (Result₂ (point min) (set_of binary64 (pair_of x)) (set_of binary64 (pair_of y))) (pair_of result) }
@@ -72,5 +54,8 @@ pub fn min_of(x: EndPair, y: EndPair) -> EndPair
     if either_empty(x, y) {
         return EndPair::EMPTY;
     }
-    min_of_spans(x, y)
+    canonical(EndPair {
+        a: lesser(x.a, y.a),
+        b: lesser(x.b, y.b),
+    })
 }

@@ -23,11 +23,11 @@ use Rattle.theorem3.specs.declared.Corner.{Corner}
 use Rattle.theorem3.specs.Ends.{sum_end, product_end, quotient_end}
 use Rattle.theorem3.specs.Corners.{end_at, Divides}
 use Rattle.theorem3.specs.Tables.{kind_of, mirror_kind, product_corner, quotient_corner, product_upper, quotient_upper}
-use Rattle.theorem3.specs.Answer.{Arithmetic, adding, subtracting, multiplying, dividing, Bounds, nothing, between, TrueBounds, no_results, some_results, is_zero, span_bounds}
+use Rattle.theorem3.specs.Answer.{Arithmetic, adding, multiplying, dividing, Bounds, nothing, between, TrueBounds, no_results, some_results, is_zero, span_bounds}
 use Rattle.theorem3.proofs.KindLaws.{kind_of_lem}
 use Rattle.theorem3.proofs.ClassLaws.{class_right}
 use Rattle.theorem3.proofs.Divisors.{table_divides}
-use Rattle.theorem3.proofs.TrueBounds.{Results, sums_right, differences_right, products_right, quotients_right}
+use Rattle.theorem3.proofs.TrueBounds.{Results, sums_right, products_right, quotients_right}
 use Rattle.end_pairs.proofs.TestLaws.{lower_pattern, upper_pattern}
 use Rattle.end_pairs.specs.Mirror.{outward_pair, mirror_pair}
 use Rattle.end_pairs.proofs.MirrorLaws.{mirror_set}
@@ -83,9 +83,6 @@ module _ (F : Format) (x y : Pair) (proper : Proper F x × Proper F y) where
   module _ {p q : ℕ} (isP : p ≡ opposite F x.lower) (isQ : q ≡ opposite F y.lower) where
     pub sum_bounds : TrueBounds (Results adding (set_of F x) (set_of F y)) (between (sum_end (end_of F p) (end_of F q)) (sum_end b d))
     sum_bounds = rw (lower_negated F x proper.0 isP, lower_negated F y proper.1 isQ) (on_spans adding sums_right)
-
-    pub difference_bounds : TrueBounds (Results subtracting (set_of F x) (set_of F y)) (between (sum_end (end_of F p) d) (sum_end b (end_of F q)))
-    difference_bounds = rw (lower_negated F x proper.0 isP, lower_negated F y proper.1 isQ) (on_spans subtracting differences_right)
 
   -- m is the first operand mirrored, and the operands have the classes j and k.
   module _ {m : Pair} (is_m : m ≡ mirror_pair F x) {j k : Class} (jx : ClassOf (set_of F x) j) (ky : ClassOf (set_of F y) k) where

@@ -12,7 +12,7 @@ use end_pairs::{EndPair, either_empty, mirrored, opposite};
 use kinds::{is_zero, kind_of, mirrored_kind};
 use tables::{product_corner, quotient_corner};
 
-// For each end, whether it is the true bound of all results, attained or not.
+// For each end, whether it is the true bound of all results, attained or not. The ends count either way, so that no Option says this.
 #[derive(Clone, Copy)]
 pub struct Exactness {
     pub lower: bool,
@@ -40,19 +40,15 @@ pub fn sum_exactness(x: EndPair, y: EndPair) -> Exactness
     }
 }
 
+// A difference is the sum with the second operand mirrored.
 pub fn difference_exactness(x: EndPair, y: EndPair) -> Exactness
     requires { Bare binary64 (pair_of x) × Bare binary64 (pair_of y) }
     ensures { ExactFor binary64 (Result₂ (point sub) (set_of binary64 (pair_of x)) (set_of binary64 (pair_of y))) result }
 {
-    if either_empty(x, y) {
-        return Exactness::BOTH;
-    }
-    Exactness {
-        lower: sum_is_exact(opposite(x.a), y.b),
-        upper: sum_is_exact(x.b, opposite(y.a)),
-    }
+    sum_exactness(x, mirrored(y))
 }
 
+// It asks where `mul_of` works out: the corners are chosen in both, since one function for them would need a clause longer than their choice.
 pub fn product_exactness(x: EndPair, y: EndPair) -> Exactness
     requires { Bare binary64 (pair_of x) × Bare binary64 (pair_of y) }
     ensures { ExactFor binary64 (Result₂ (point mul) (set_of binary64 (pair_of x)) (set_of binary64 (pair_of y))) result }

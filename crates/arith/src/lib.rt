@@ -39,15 +39,12 @@ pub fn add_of(x: EndPair, y: EndPair) -> EndPair
     outward(sum_end(opposite(x.a), opposite(y.a)), sum_end(x.b, y.b))
 }
 
-// [a, b] - [c, d] = [a - d, b - c]
+// [a, b] - [c, d] = [a, b] + [-d, -c]
 pub fn sub_of(x: EndPair, y: EndPair) -> EndPair
     requires { Bare binary64 (pair_of x) × Bare binary64 (pair_of y) }
     ensures { HullOf binary64 (Result₂ (point sub) (set_of binary64 (pair_of x)) (set_of binary64 (pair_of y))) (pair_of result) }
 {
-    if either_empty(x, y) {
-        return EndPair::EMPTY;
-    }
-    outward(sum_end(opposite(x.a), y.b), sum_end(x.b, opposite(y.a)))
+    add_of(x, mirrored(y))
 }
 
 // 0 times an end without bound is 0: [0, 0] * ENTIRE = [0, 0].

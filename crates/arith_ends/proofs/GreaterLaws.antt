@@ -14,7 +14,7 @@ use Rattle.meaning.specs.Sets.{End, at, unbounded, SameEnd}
 use Rattle.meaning.specs.Pairs.{worth, end_of}
 use Rattle.meaning.specs.Supremum.{AtMost, at_most, UpperEnd}
 use Rattle.meaning.proofs.ExactEnds.{UpperEndTold}
-use Rattle.meaning.proofs.FractionLaws.{le_refl, le_or_le, lt_not_le, eq_refl}
+use Rattle.meaning.proofs.FractionLaws.{le_refl, lt_le, lt_not_le, eq_refl}
 use Rattle.meaning.proofs.PairLaws.{end_finite, end_infinity}
 use Rattle.meaning.proofs.PatternHull.{upper_pattern, rounded_up}
 use Rattle.meaning.proofs.SupremumLaws.{at_most_lem, never_most, raise, same_most, same_sym, same_by}
@@ -22,6 +22,7 @@ use Rattle.meaning.proofs.Unique.{upper_unique}
 use Rattle.theorem3.specs.Ends.{greater_end}
 use Rattle.theorem3.proofs.Bounds.{greater_cases, greater_most, most_first, most_second}
 use Rattle.end_pairs.specs.Keys.{key_of}
+use Rattle.end_pairs.specs.Order as order
 use Rattle.end_pairs.proofs.KeyLaws.{key_lt, finite_keys}
 
 module _ (F : Format) {u v : End} {r s : ℕ} (up : UpperEnd F u r) (vp : UpperEnd F v s) where
@@ -111,10 +112,7 @@ tied_exact F {u} {v} {w} {r} {x = x} up vp g tie exact = record { rounded = roun
     same = same_by (λ q k. same_most (said_yes up.told exact) (g.first q k)) (rounded_up F rounded).above
 
 -- The rounded ends alone.
-pub greater_second_lem : (F : Format) {u v : End} {r s : ℕ} → UpperEnd F u r → UpperEnd F v s → worth F r ≼ worth F s → UpperEnd F (greater_end u v) s
-greater_second_lem F {u} {v} up vp h = second_greatest F up vp h (λ x. greater_most x u v) (λ x. most_second x u v)
-
-pub greater_first_lem : (F : Format) {u v : End} {r s : ℕ} → UpperEnd F u r → UpperEnd F v s → (worth F r ≼ worth F s → ⊥) → UpperEnd F (greater_end u v) r
-greater_first_lem F {u} {v} {r} {s} up vp n =
-    second_greatest F vp up (⊎_elim (λ h. absurd (n h)) (λ h. h) (le_or_le (worth F r) (worth F s)))
-    (λ x k l. greater_most x u v l k) (λ x. most_first x u v)
+pub greater_rounded : (F : Format) {u v : End} {r s t : ℕ} → UpperEnd F u r → UpperEnd F v s → order.GreaterOf F r s t → UpperEnd F (greater_end u v) t
+greater_rounded F {u} {v} up vp (order.greater_is_first l) =
+    second_greatest F vp up (lt_le l) (λ x k l. greater_most x u v l k) (λ x. most_first x u v)
+greater_rounded F {u} {v} up vp (order.greater_is_second h) = second_greatest F up vp h (λ x. greater_most x u v) (λ x. most_second x u v)

@@ -18,19 +18,13 @@ use theorem3::Corner;
 pub fn sum_is_exact(a: u64, b: u64) -> bool
     ensures { Answers (EndOfFormat binary64 (sum_end (end_of binary64 a) (end_of binary64 b))) result }
 {
-    if both_finite(a, b) {
-        return is_exact_sum(a, b);
-    }
-    true
+    !both_finite(a, b) || is_exact_sum(a, b)
 }
 
 fn product_is_exact(a: u64, b: u64) -> bool
     ensures { Answers (EndOfFormat binary64 (product_end (end_of binary64 a) (end_of binary64 b))) result }
 {
-    if both_finite(a, b) {
-        return is_exact_product(a, b);
-    }
-    true
+    !both_finite(a, b) || is_exact_product(a, b)
 }
 
 // The quotient by an end that is not 0. An infinite divisor gives 0.
@@ -38,10 +32,7 @@ fn quotient_is_exact(a: u64, b: u64) -> bool
     requires { AtZero (end_of binary64 b) → ⊥ }
     ensures { Answers (EndOfFormat binary64 (quotient_end (end_of binary64 a) (end_of binary64 b))) result }
 {
-    if both_finite(a, b) {
-        return is_exact_quotient(a, b);
-    }
-    true
+    !both_finite(a, b) || is_exact_quotient(a, b)
 }
 
 // The greater of a * c and b * d. Where both round to one double, the first is the greater if it is exact.
@@ -53,15 +44,12 @@ fn greater_is_exact(x: EndPair, y: EndPair) -> bool
     let first = product_is_exact(x.a, y.a);
     let second = product_is_exact(x.b, y.b);
     if lowers == uppers {
-        if first {
-            return true;
-        }
-        return second;
+        first || second
+    } else if less_or_equal(lowers, uppers) {
+        second
+    } else {
+        first
     }
-    if less_or_equal(lowers, uppers) {
-        return second;
-    }
-    first
 }
 
 // A corner of [a, b] * [c, d].
@@ -74,8 +62,7 @@ pub fn product_is_exact_at(corner: Corner, x: EndPair, y: EndPair) -> bool
         Corner::UpperLower => product_is_exact(x.b, y.a),
         Corner::UpperUpper => product_is_exact(x.b, y.b),
         Corner::Greater => greater_is_exact(x, y),
-        Corner::Zero => true,
-        Corner::Unbounded => true,
+        Corner::Zero | Corner::Unbounded => true,
     }
 }
 
@@ -89,8 +76,6 @@ pub fn quotient_is_exact_at(corner: Corner, x: EndPair, y: EndPair) -> bool
         Corner::LowerUpper => quotient_is_exact(x.a, y.b),
         Corner::UpperLower => quotient_is_exact(x.b, y.a),
         Corner::UpperUpper => quotient_is_exact(x.b, y.b),
-        Corner::Greater => true,
-        Corner::Zero => true,
-        Corner::Unbounded => true,
+        Corner::Greater | Corner::Zero | Corner::Unbounded => true,
     }
 }

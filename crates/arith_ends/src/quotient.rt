@@ -6,7 +6,7 @@ ghost use Rattle.theorem3.specs.Ends.{quotient_end};
 ghost use Rattle.theorem3.specs.Corners.{end_at, Divides};
 
 use crate::ends::quotient_end;
-use end_pairs::{EndPair, INFINITY};
+use end_pairs::{EndPair, INFINITY, PLUS_ZERO};
 use theorem3::Corner;
 
 // A corner of [a, b] / [c, d], worked out. No quotient is the greater of two; an arm for it has to be there all the same.
@@ -19,8 +19,7 @@ pub fn quotient_at(corner: Corner, x: EndPair, y: EndPair) -> u64
         Corner::LowerUpper => quotient_end(x.a, y.b),
         Corner::UpperLower => quotient_end(x.b, y.a),
         Corner::UpperUpper => quotient_end(x.b, y.b),
-        Corner::Greater => INFINITY,
-        Corner::Zero => 0,
-        Corner::Unbounded => INFINITY,
+        Corner::Zero => PLUS_ZERO,
+        Corner::Greater | Corner::Unbounded => INFINITY,
     }
 }

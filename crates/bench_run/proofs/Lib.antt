@@ -1,5 +1,4 @@
--- Laws of bytes that move, of replies, and of runs and their turns.
-pub mod FrontLaws
+-- Laws of replies, and of runs and their turns.
 pub mod RepliesLaws
 pub mod RunLaws
 pub mod OneRun

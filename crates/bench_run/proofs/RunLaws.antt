@@ -1,5 +1,5 @@
 -- The theorem on runs: however the input arrives, what is written is what document 01 says of the whole input.
-use mathlib.Core.Bool.{true, false}
+use mathlib.Core.Bool.{true, false, true≢false}
 use mathlib.Core.Path.{◌≡◌, refl, sym, ◌∙◌, ap, subst, subst⁻¹, subst₂}
 use mathlib.Core.Logic.{⊎_elim}
 use mathlib.Core.List.{List, [], ◌++◌, append_assoc, append-nil, flatten}
@@ -71,16 +71,13 @@ module _ {taken held arrived output : List ℕ} {answered : ℕ} {left : Turned}
   written : output ++ left.written ≡ (output ++ t.replies) ++ ending_reply t.ending
   written = ap (λ (l : List ℕ). output ++ l) t.writes ∙ sym (append_assoc output t.replies (ending_reply t.ending))
 
-false_not_true : false ≡ true → ⊥
-false_not_true e = let none : ◌≡◌ {A = ℕ} 0 1 = cc in omega arith
-
 -- Which endings another turn follows.
 onward : {arrived kept answered : ℕ} {ending : Ending} → Closes arrived kept answered ending → ending_more ending ≡ true
     → (0 < arrived) × (answered ≡ most → kept ≡ 0) × (ending_reply ending ≡ [])
 onward (goes_on some none) e = (some, none, refl)
-onward (is_whole _ _) e = absurd (false_not_true e)
-onward (has_piece _ _ _) e = absurd (false_not_true e)
-onward (has_excess _ _) e = absurd (false_not_true e)
+onward (is_whole _ _) e = absurd (true≢false (sym e))
+onward (has_piece _ _ _) e = absurd (true≢false (sym e))
+onward (has_excess _ _) e = absurd (true≢false (sym e))
 
 -- What a turn leaves that another follows: less than a request, and more bytes taken than before.
 pub record GoesOn (held arrived : List ℕ) (answered : ℕ) (left : Turned) : Type 0 where
@@ -131,7 +128,7 @@ underway_next {taken} {held} {arrived} {output} {answered} {left} u t more =
 ended : {input : List ℕ} {arrived kept answered : ℕ} {ending : Ending} → Closes arrived kept answered ending → ending_more ending ≡ false
     → kept ≡ length input - request_size * answered → request_size * answered ≤ length input → (answered < most → kept < request_size)
     → EndsWith input answered (ending_reply ending)
-ended (goes_on _ _) e rest fits short = absurd (false_not_true (sym e))
+ended (goes_on _ _) e rest fits short = absurd (true≢false e)
 ended (is_whole none nothing) e rest fits short = whole (omega arith)
 ended (has_piece none some less) e rest fits short = piece less (omega arith) (omega (arith, short less))
 ended (has_excess all some) e rest fits short = excess all (omega arith)

@@ -4,25 +4,31 @@ use Rattle.request_laws.specs.Chunk.{request_size}
 use Rattle.bench_run.specs.Limit.{most, too_many, too_short, complete_in}
 use Rattle.bench_run.specs.Run.{Replies, last_reply}
 use Rattle.bench_run.specs.declared.ending.Ending.{Ending}
+use Rattle.bench_run.specs.declared.ending.Leftover.{Leftover}
 
 -- How a turn closes, by the bytes that arrived, those that are kept, and the requests that are answered by then. The input has
 -- ended where nothing arrived.
 pub data Closes (arrived kept answered : ℕ) : Ending → Type 0 where
   goes_on : 0 < arrived → (answered ≡ most → kept ≡ 0) → Closes arrived kept answered Ending.Onward
   is_whole : arrived ≡ 0 → kept ≡ 0 → Closes arrived kept answered Ending.Whole
-  has_piece : arrived ≡ 0 → 0 < kept → answered < most → Closes arrived kept answered (Ending.Last too_short)
-  has_excess : answered ≡ most → 0 < kept → Closes arrived kept answered (Ending.Last too_many)
+  has_piece : arrived ≡ 0 → 0 < kept → answered < most → Closes arrived kept answered (Ending.Last Leftover.Piece)
+  has_excess : answered ≡ most → 0 < kept → Closes arrived kept answered (Ending.Last Leftover.Excess)
+
+-- The number of the reply to bytes that are no request.
+abbrev pub leftover_number : Leftover → ℕ
+leftover_number Leftover.Piece = too_short
+leftover_number Leftover.Excess = too_many
 
 -- The reply that closes a turn, and whether another turn follows.
 abbrev pub ending_reply : Ending → List ℕ
 ending_reply Ending.Onward = []
 ending_reply Ending.Whole = []
-ending_reply (Ending.Last number) = last_reply number
+ending_reply (Ending.Last leftover) = last_reply (leftover_number leftover)
 
 abbrev pub ending_more : Ending → Bool
 ending_more Ending.Onward = true
 ending_more Ending.Whole = false
-ending_more (Ending.Last number) = false
+ending_more (Ending.Last leftover) = false
 
 -- What a turn leaves: the bytes to write, the bytes that are kept for the next turn, the requests that are answered by then, and
 -- whether a turn follows.

@@ -5,11 +5,14 @@ ghost use Rattle.bench_run.specs.Turn.{Closes};
 
 use crate::limit::MOST;
 
-// Document 01's number for a last piece, which is no whole request.
-const TOO_SHORT: u8 = 1;
-
-// Document 01's number for a byte after the last request that a run answers.
-const TOO_MANY: u8 = 7;
+// Bytes that end a run and are no request, each with document 01's number for it.
+#[derive(Clone, Copy)]
+pub enum Leftover {
+    // A last piece, which is no whole request.
+    Piece = 1,
+    // Bytes after the last request that a run answers.
+    Excess = 7,
+}
 
 #[derive(Clone, Copy)]
 pub enum Ending {
@@ -17,12 +20,13 @@ pub enum Ending {
     Onward,
     // The run ends with its last request.
     Whole,
-    // The run ends with a reply that has this number.
-    Last(u8),
+    // The run ends with a reply to these bytes.
+    Last(Leftover),
 }
 
 // How a turn closes, by the bytes that arrived, none where the input has ended, the bytes that it keeps, and the requests that
 // are answered by then.
+#[tactic(auto, using(crate::specs::Turn::goes_on, crate::specs::Turn::is_whole, crate::specs::Turn::has_piece, crate::specs::Turn::has_excess))]
 pub fn closing(arrived: usize, kept: usize, answered: usize) -> Ending
     requires { answered ≤ most }
     ensures { Closes arrived kept answered result }
@@ -34,10 +38,10 @@ pub fn closing(arrived: usize, kept: usize, answered: usize) -> Ending
         return Ending::Onward;
     }
     if answered == MOST {
-        return Ending::Last(TOO_MANY);
+        return Ending::Last(Leftover::Excess);
     }
     if arrived == 0 {
-        return Ending::Last(TOO_SHORT);
+        return Ending::Last(Leftover::Piece);
     }
     Ending::Onward
 }

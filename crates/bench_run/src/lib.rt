@@ -7,7 +7,7 @@ mod limit;
 mod replies;
 mod rest;
 
-pub use ending::{Ending, closing};
+pub use ending::{Ending, Leftover, closing};
 pub use limit::complete;
 pub use replies::last_reply;
 pub use rest::keep_rest;

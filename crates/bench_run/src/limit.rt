@@ -13,6 +13,5 @@ pub fn complete(held: usize, answered: usize) -> usize
     ensures { result ≡ complete_in held answered }
 {
     let whole = held / DECORATED_REQUEST;
-    let left = MOST - answered;
-    if whole < left { whole } else { left }
+    whole.min(MOST - answered)
 }

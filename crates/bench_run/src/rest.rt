@@ -6,9 +6,5 @@ pub fn keep_rest(buffer: &mut [u8], from: usize, rest: usize)
     requires { from + rest ≤ length buffer.old }
     ensures { buffer.new ≡ take rest (drop from buffer.old) ++ drop rest buffer.old }
 {
-    let mut i = 0;
-    while i < rest {
-        buffer[i] = buffer[from + i];
-        i += 1;
-    }
+    buffer.copy_within(from..from + rest, 0);
 }

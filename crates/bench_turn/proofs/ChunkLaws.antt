@@ -1,61 +1,61 @@
 -- A chunk with one reply more.
 use mathlib.Core.Path.{◌≡◌, refl, sym, ◌∙◌, ap, subst⁻¹}
-use mathlib.Core.List.{List, ◌++◌}
-use Prim.Native.Nat.{ℕ, ◌+◌, ◌*◌, ◌<◌, ◌≤◌}
+use mathlib.Core.List.{List, []}
+use Prim.Native.Nat.{ℕ, zero, suc, ◌+◌, ◌-◌, ◌*◌, ◌<◌, ◌≤◌}
 use native.Mathlib.Omega.{arith}
 use borrow.Author.Count.{below_more}
-use lib.ListN.{length, take, drop, take-append-drop}
-use lib.Seq.{length-take-le, take_at, drop_at, drop-drop}
+use borrow.Rule.Slice.PartMut.{put_mid}
+use lib.ListN.{length, get_or, take, drop}
+use lib.Seq.{drop-drop}
+use Rattle.std.proofs.lemmas.Slice.{between-put_mid, drop-put_mid, take-put_mid_below, between_is}
+use Rattle.std.specs.Simd.{first_chunks}
 use Rattle.request_laws.specs.Chunk.{request_size, reply_size, part, Replied, Chunk}
-use Rattle.request_laws.proofs.PartLaws.{part_front}
-use Rattle.bench_turn.proofs.PutLaws.{placed}
 
--- Before the first request is answered nothing has changed.
-pub chunk_none : (input before : List ℕ) → Chunk 0 input before before
-chunk_none input before = record { each = λ i less. absurd (omega arith); rest = refl }
+-- A request among those that std cuts off is the part of the input at its place.
+pub request_at : (count i : ℕ) (input : List ℕ) → i < count → get_or (first_chunks request_size count input) i [] ≡ part request_size i input
+request_at zero i input less = absurd (omega arith)
+request_at (suc count) zero input less = refl
+request_at (suc count) (suc i) input less =
+    request_at count i (drop request_size input) (omega arith)
+    ∙ ap (take request_size)
+    (drop-drop (request_size * i) request_size input
+    ∙ ap (λ (n : ℕ). drop n input) {x = request_size + request_size * i} {y = request_size * suc i} (omega arith))
 
 -- What follows one part more.
 drop_part : (i : ℕ) (l : List ℕ) → drop (reply_size * (i + 1)) l ≡ drop reply_size (drop (reply_size * i) l)
 drop_part i l =
     ap (λ (n : ℕ). drop n l) {x = reply_size * (i + 1)} {y = reply_size * i + reply_size} (omega arith) ∙ sym (drop-drop reply_size (reply_size * i) l)
 
--- A list after d was put in the place of its i-th part.
-module _ (i : ℕ) (l d : List ℕ) (sized : length d ≡ reply_size) (fits : reply_size * i + reply_size ≤ length l) where
-  front_long : length (take (reply_size * i) l) ≡ reply_size * i
-  front_long = length-take-le (reply_size * i) l (omega arith)
+-- A part before the one that is written.
+earlier_part : (i j k : ℕ) (l d : List ℕ) → j < i → reply_size * i ≤ length l → part reply_size j (put_mid (reply_size * i) k l d) ≡ part reply_size j l
+earlier_part i j k l d less within =
+    part_is (put_mid (reply_size * i) k l d)
+    ∙ ap (drop (reply_size * j)) (take-put_mid_below (reply_size * i) k l d (reply_size * j + reply_size) (omega arith) within)
+    ∙ sym (part_is l)
+  where
+    part_is : (m : List ℕ) → part reply_size j m ≡ drop (reply_size * j) (take (reply_size * j + reply_size) m)
+    part_is m =
+        ap (λ (n : ℕ). take n (drop (reply_size * j) m)) {x = reply_size} {y = reply_size * j + reply_size - reply_size * j} (omega arith)
+        ∙ between_is m (reply_size * j) (reply_size * j + reply_size)
 
-  from_part : drop (reply_size * i) (placed l d (reply_size * i)) ≡ d ++ drop (reply_size * i + length d) l
-  from_part = drop_at (take (reply_size * i) l) (d ++ drop (reply_size * i + length d) l) (reply_size * i) front_long
-
-  earlier_part : (j : ℕ) → j < i → part reply_size j (placed l d (reply_size * i)) ≡ part reply_size j l
-  earlier_part j less =
-      let within : reply_size * j + reply_size ≤ length (take (reply_size * i) l) = omega (arith, front_long) in
-      part_front reply_size j (take (reply_size * i) l) (d ++ drop (reply_size * i + length d) l) within
-      ∙ sym (part_front reply_size j (take (reply_size * i) l) (drop (reply_size * i) l) within)
-      ∙ ap (part reply_size j) (take-append-drop (reply_size * i) l)
-
-  placed_part : part reply_size i (placed l d (reply_size * i)) ≡ d
-  placed_part = ap (take reply_size) from_part ∙ take_at d (drop (reply_size * i + length d) l) reply_size sized
-
-  later_parts : drop (reply_size * (i + 1)) (placed l d (reply_size * i)) ≡ drop (reply_size * (i + 1)) l
-  later_parts =
-      drop_part i (placed l d (reply_size * i))
-      ∙ ap (drop reply_size) from_part
-      ∙ drop_at d (drop (reply_size * i + length d) l) reply_size sized
-      ∙ ap (λ (n : ℕ). drop n l) {x = reply_size * i + length d} {y = reply_size * (i + 1)} (omega arith)
-
--- One reply more, at its own place.
-pub chunk_more : (i : ℕ) {input before replies reply : List ℕ} → Chunk i input before replies → Replied (part request_size i input) reply
-    → length reply ≡ reply_size → reply_size * i + reply_size ≤ length replies → Chunk (i + 1) input before (placed replies reply (reply_size * i))
-chunk_more i {input} {before} {replies} {reply} chunk replied sized fits =
+-- One reply more, written at its own place.
+pub chunk_more : (i k : ℕ) {input before replies reply : List ℕ} → Chunk i input before replies → Replied (part request_size i input) reply
+    → length reply ≡ reply_size → k ≡ reply_size → reply_size * i + reply_size ≤ length replies
+    → Chunk (i + 1) input before (put_mid (reply_size * i) k replies reply)
+chunk_more i k {input} {before} {replies} {reply} chunk replied sized long fits =
     record {
       each =
-          below_more (λ (j : ℕ). Replied (part request_size j input) (part reply_size j (placed replies reply (reply_size * i)))) i
-          (λ j less. subst⁻¹ (Replied (part request_size j input)) (earlier_part i replies reply sized fits j less) (chunk.each j less))
-          (subst⁻¹ (Replied (part request_size i input)) (placed_part i replies reply sized fits) replied);
+          below_more (λ (j : ℕ). Replied (part request_size j input) (part reply_size j (put_mid (reply_size * i) k replies reply))) i
+          (λ j less. subst⁻¹ (Replied (part request_size j input)) (earlier_part i j k replies reply less (omega arith)) (chunk.each j less))
+          (subst⁻¹ (Replied (part request_size i input)) written replied);
       rest =
-          later_parts i replies reply sized fits
+          drop-put_mid (reply_size * i) k replies reply (reply_size * (i + 1)) (omega arith) (omega arith) (omega arith)
           ∙ drop_part i replies
           ∙ ap (drop reply_size) chunk.rest
           ∙ sym (drop_part i before);
     }
+  where
+    written : part reply_size i (put_mid (reply_size * i) k replies reply) ≡ reply
+    written =
+        ap (λ (n : ℕ). take n (drop (reply_size * i) (put_mid (reply_size * i) k replies reply))) {x = reply_size} {y = reply_size * i + reply_size - reply_size * i} (omega arith)
+        ∙ between-put_mid (reply_size * i) k replies reply (reply_size * i + reply_size) (omega arith) (omega arith)

@@ -1,45 +1,41 @@
 -- A turn on two buffers from its steps: what is answered, what is kept, and how it closes.
-use mathlib.Core.Path.{◌≡◌, refl, sym, ◌∙◌, ap, ap₂, subst, subst⁻¹, subst₂}
-use mathlib.Core.List.{List, [], ◌++◌, append_assoc}
+use mathlib.Core.Path.{◌≡◌, refl, sym, ◌∙◌, ap, ap₂, subst, subst₂}
+use mathlib.Core.List.{List, ◌++◌, append_assoc}
 use Prim.Native.Nat.{ℕ, ◌+◌, ◌*◌, ◌-◌, ◌≤◌}
 use native.Mathlib.Omega.{arith}
-use lib.ListN.{length, take, drop, length-append, length-drop, take-append-drop}
-use lib.Seq.{length-take-le, take-add, drop_at, drop-drop}
-use Rattle.request_laws.specs.Chunk.{request_size, reply_size, part, Replied, Chunk}
+use lib.ListN.{length, take, drop, length-append, length-drop}
+use lib.Seq.{length-take-le, take-add, drop-drop}
+use Rattle.std.proofs.lemmas.Slice.{between_is}
+use Rattle.request_laws.specs.Chunk.{request_size, reply_size, Replied, Chunk}
 use Rattle.request_laws.proofs.PartLaws.{part_take}
 use Rattle.bench_run.specs.Limit.{complete_in}
 use Rattle.bench_run.specs.Run.{Replies}
 use Rattle.bench_run.specs.Turn.{Closes, ending_reply, ending_more, Turned}
 use Rattle.bench_run.proofs.OneRun.{turn_once}
-use Rattle.bench_turn.specs.Buffers.{fronted, TurnRoom, TurnOn, ClosedBy}
-use Rattle.bench_run.specs.declared.ending.Ending.{Ending}
-use Rattle.bench_turn.specs.declared.one_turn.Run.{Run}
+use Rattle.bench_turn.specs.Buffers.{fronted, flow, TurnRoom, TurnOn, ClosedBy}
+use Rattle.bench_turn.specs.declared.one_turn.TurnEnd.{TurnEnd}
 
--- What is left of the front of a list behind its first m bytes.
-drop_take : (m n : ℕ) (l : List ℕ) → m ≤ n → n ≤ length l → drop m (take n l) ≡ take (n - m) (drop m l)
-drop_take m n l less within =
-    ap (λ (k : ℕ). drop m (take k l)) {x = n} {y = m + (n - m)} (omega arith)
-    ∙ ap (drop m) (take-add m (n - m) l)
-    ∙ drop_at (take m l) (take (n - m) (drop m l)) m (length-take-le m l (omega arith))
-
--- A chunk's replies are those at the front of the output.
-chunk_replies : (count : ℕ) {input before after : List ℕ} → reply_size * count ≤ length after → Chunk count input before after
-    → Replies count input (take (reply_size * count) after)
-chunk_replies count {input} {before} {after} room chunk =
+-- The replies to a chunk at the front of the input are those at the front of the output.
+chunk_replies : (count n : ℕ) (input : List ℕ) {before after : List ℕ} → request_size * count ≤ n → n ≤ length input → reply_size * count ≤ length after
+    → Chunk count (take (request_size * count) input) before after → Replies count (take n input) (take (reply_size * count) after)
+chunk_replies count n input {before} {after} taken within room chunk =
     record {
       size = length-take-le (reply_size * count) after room;
       each =
           λ i less.
-          subst⁻¹ (Replied (part request_size i input)) (part_take reply_size i (reply_size * count) after room (omega arith)) (chunk.each i less);
+          subst₂ Replied
+          (part_take request_size i (request_size * count) input (omega arith) (omega arith) ∙ sym (part_take request_size i n input within (omega arith)))
+          (sym (part_take reply_size i (reply_size * count) after room (omega arith)))
+          (chunk.each i less);
     }
 
-module _ {held arrived answered count : ℕ} {input output input' middle output' : List ℕ} {r : Run}
+module _ {held arrived answered count : ℕ} {input output input' middle output' : List ℕ} {r : TurnEnd}
     (room : TurnRoom held arrived answered input output)
     (counts : count ≡ complete_in (held + arrived) answered)
     (sized : length middle ≡ length output)
-    (chunk : Chunk count (take (held + arrived) input) output middle)
+    (chunk : Chunk count (take (request_size * count) input) output middle)
     (keeps : input' ≡ take (held + arrived - request_size * count) (drop (request_size * count) input) ++ drop (held + arrived - request_size * count) input)
-    (closed : ClosedBy arrived (held + arrived - request_size * count) (answered + count) (reply_size * count) middle r output') where
+    (closed : ClosedBy arrived (record { held = held + arrived - request_size * count; answered = answered + count }) (reply_size * count) middle r output') where
   abbrev bytes : List ℕ
   bytes = take held input ++ take arrived (drop held input)
 
@@ -65,13 +61,13 @@ module _ {held arrived answered count : ℕ} {input output input' middle output'
   kept = drop (request_size * count) bytes
 
   kept_is : kept ≡ take (held + arrived - request_size * count) (drop (request_size * count) input)
-  kept_is = ap (drop (request_size * count)) (sym bytes_are) ∙ drop_take (request_size * count) (held + arrived) input taken room.there
+  kept_is = ap (drop (request_size * count)) (sym bytes_are) ∙ sym (between_is input (request_size * count) (held + arrived))
 
   length_kept : length kept ≡ held + arrived - request_size * count
   length_kept = length-drop (request_size * count) bytes ∙ ap (λ (n : ℕ). n - request_size * count) length_bytes
 
   abbrev left : Turned
-  left = record { written = take (reply_size * count) middle ++ reply; kept = kept; answered = answered + count; more = r.more }
+  left = record { written = take (reply_size * count) middle ++ reply; kept = kept; answered = answered + count; more = ending_more closed.ending }
 
   length_written : length left.written ≡ reply_size * count + length reply
   length_written = omega (arith, length-append (take (reply_size * count) middle) reply, length-take-le (reply_size * count) middle fits)
@@ -93,19 +89,19 @@ module _ {held arrived answered count : ℕ} {input output input' middle output'
               count = count;
               counts = counts ∙ ap (λ (n : ℕ). complete_in n answered) (sym length_bytes);
               replies = take (reply_size * count) middle;
-              answers = chunk_replies count fits (subst (λ (l : List ℕ). Chunk count l output middle) bytes_are chunk);
+              answers =
+                  subst (λ (l : List ℕ). Replies count l (take (reply_size * count) middle)) bytes_are
+                  (chunk_replies count (held + arrived) input taken room.there fits chunk);
               ending = closed.ending;
               closes =
                   subst₂ (λ (n k : ℕ). Closes n k (answered + count) closed.ending) (sym length_arrived) (sym length_kept) closed.closes;
               writes = refl;
               keeps = refl;
               sums = refl;
-              follows = closed.follows;
+              follows = refl;
             };
-        holds = closed.holds ∙ sym length_kept;
-        answers = closed.answers;
         writes = closed.writes ∙ sym length_written;
-        follows = refl;
+        follows = closed.follows ∙ ap (λ (n : ℕ). flow (ending_more closed.ending) (record { held = n; answered = answered + count })) (sym length_kept);
         input_is = keeps ∙ ap₂ ◌++◌ (sym kept_is) (ap (λ (n : ℕ). drop n input) (sym length_kept));
         output_is =
             closed.output_is
@@ -113,27 +109,8 @@ module _ {held arrived answered count : ℕ} {input output input' middle output'
             ∙ ap (λ (l : List ℕ). (take (reply_size * count) middle ++ reply) ++ l) behind;
       }
 
--- A turn that closes with no reply leaves the output as it is.
-pub closed_silently : {arrived held answered written : ℕ} {output : List ℕ} {ending : Ending} → Closes arrived held answered ending
-    → ending_reply ending ≡ []
-    → ClosedBy arrived held answered written output (record { held = held; answered = answered; written = written; more = ending_more ending }) output
-closed_silently {written = written} {output = output} {ending = ending} closes silent =
-    record {
-      ending = ending;
-      closes = closes;
-      holds = refl;
-      answers = refl;
-      writes = omega (arith, ap length silent);
-      follows = refl;
-      output_is =
-          sym
-          (ap (λ (l : List ℕ). take written output ++ (l ++ drop (written + length l) output)) silent
-          ∙ ap (λ (n : ℕ). take written output ++ drop n output) {x = written + 0} {y = written} (omega arith)
-          ∙ take-append-drop written output);
-    }
-
 -- A turn on two buffers leaves one thing: its numbers, and both buffers whole.
-module _ {held arrived answered : ℕ} {input output : List ℕ} {r s : Run} {input' output' input'' output'' : List ℕ}
+module _ {held arrived answered : ℕ} {input output : List ℕ} {r s : TurnEnd} {input' output' input'' output'' : List ℕ}
     (h : TurnOn held arrived answered input output r input' output') (k : TurnOn held arrived answered input output s input'' output'') where
   same : h.left ≡ k.left
   same = turn_once h.turn k.turn
@@ -142,10 +119,12 @@ module _ {held arrived answered : ℕ} {input output : List ℕ} {r s : Run} {in
   turn_on_once = (
     λ i.
         record {
-          held = (h.holds ∙ ap (λ (l : Turned). length l.kept) same ∙ sym k.holds) i;
-          answered = (h.answers ∙ ap (λ (l : Turned). l.answered) same ∙ sym k.answers) i;
           written = (h.writes ∙ ap (λ (l : Turned). length l.written) same ∙ sym k.writes) i;
-          more = (h.follows ∙ ap (λ (l : Turned). l.more) same ∙ sym k.follows) i;
+          run =
+              (h.follows
+              ∙ ap (λ (l : Turned). flow l.more (record { held = length l.kept; answered = l.answered })) same
+              ∙ sym k.follows)
+              i;
         },
     h.input_is ∙ ap (λ (l : Turned). fronted l.kept input) same ∙ sym k.input_is,
     h.output_is ∙ ap (λ (l : Turned). fronted l.written output) same ∙ sym k.output_is,

@@ -1,3 +1,2 @@
--- What the contracts of a chunk and of a turn cite: the room that they need, and what a turn leaves in its buffers.
-pub mod Room
+-- What the contract of a turn cites: the room that it needs, and what it leaves in its buffers.
 pub mod Buffers

@@ -5,4 +5,4 @@
 mod chunk;
 mod one_turn;
 
-pub use one_turn::{Run, turn};
+pub use one_turn::{Run, TurnEnd, turn};

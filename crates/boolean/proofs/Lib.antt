@@ -2,4 +2,3 @@
 pub mod EndsByKeys
 pub mod EndTests
 pub mod MirrorTests
-pub mod ComparisonNames

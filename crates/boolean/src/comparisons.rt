@@ -14,7 +14,7 @@ use crate::weak::{precedes, reaches, reaches_down};
 use dec_interval::DecInterval;
 use end_pairs::EndPair;
 use operation_names::Comparison;
-use operation_steps::{Operands, two_operands};
+use operation_steps::two_operands;
 
 // Whether `x` is a subset of `y`:
 //
@@ -114,7 +114,7 @@ pub fn compares_dec(c: Comparison, x: DecInterval, y: DecInterval) -> bool
     ensures { Answers (PairsCompare binary64 (comparison_of c) (dec_pair_of x).pair (dec_pair_of y).pair) result }
 {
     match two_operands(x, y) {
-        Operands::Nai => false,
-        Operands::Intervals(_) => compares(c, x.x.ends, y.x.ends),
+        Some(_) => compares(c, x.x.ends, y.x.ends),
+        None => false,
     }
 }

@@ -2,53 +2,31 @@
 ghost use Rattle.patterns.specs.Format.{binary64};
 ghost use Rattle.meaning.specs.Points as points;
 ghost use Rattle.meaning.specs.Results.{point};
-ghost use Rattle.meaning.specs.Statement.{Bare₁, Bare₂, Decorated₁, Decorated₂};
-ghost use Rattle.interval.specs.IntervalMeaning.{pair_of, outcome};
-ghost use Rattle.dec_interval.specs.DecIntervalMeaning.{dec_pair_of, dec_outcome};
+ghost use Rattle.meaning.specs.FormStatements.{Answer₁, Answer₂};
+ghost use Rattle.refusals.specs.RefusalMeaning.{outcome_of};
 
-use dec_interval::{DecAnswer, DecInterval};
-use interval::{Answer, Interval};
-use judged::{one, one_dec, two, two_dec};
+use judged::{one, two};
+use operands::Operand;
 use operation_names::{Binary, Unary};
+use refusals::Refusal;
 
 // The absolute value of `x`. The domain of the point function is R, its range [0, ∞).
-pub fn abs(x: Interval) -> Answer
-    ensures { Bare₁ binary64 points.abs (pair_of x) (outcome result) }
+pub fn abs<T: Operand>(x: T) -> Result<T, Refusal>
+    ensures { Answer₁ binary64 T.form points.abs (T.value x) (outcome_of T.value result) }
 {
     one(Unary::Abs, x)
 }
 
 // The maximum of `x` and `y`. The domain of the point function is R², its range R.
-pub fn max(x: Interval, y: Interval) -> Answer
-    ensures { Bare₂ binary64 (point points.max) (pair_of x) (pair_of y) (outcome result) }
+pub fn max<T: Operand>(x: T, y: T) -> Result<T, Refusal>
+    ensures { Answer₂ binary64 T.form (point points.max) (T.value x) (T.value y) (outcome_of T.value result) }
 {
     two(Binary::Max, x, y)
 }
 
 // The minimum of `x` and `y`. The domain of the point function is R², its range R.
-pub fn min(x: Interval, y: Interval) -> Answer
-    ensures { Bare₂ binary64 (point points.min) (pair_of x) (pair_of y) (outcome result) }
+pub fn min<T: Operand>(x: T, y: T) -> Result<T, Refusal>
+    ensures { Answer₂ binary64 T.form (point points.min) (T.value x) (T.value y) (outcome_of T.value result) }
 {
     two(Binary::Min, x, y)
-}
-
-// The decorated version of `abs`. It is NaI if `x` is.
-pub fn abs_dec(x: DecInterval) -> DecAnswer
-    ensures { Decorated₁ binary64 points.abs (dec_pair_of x) (dec_outcome result) }
-{
-    one_dec(Unary::Abs, x)
-}
-
-// The decorated version of `max`. It is NaI if `x` or `y` is.
-pub fn max_dec(x: DecInterval, y: DecInterval) -> DecAnswer
-    ensures { Decorated₂ binary64 (point points.max) (dec_pair_of x) (dec_pair_of y) (dec_outcome result) }
-{
-    two_dec(Binary::Max, x, y)
-}
-
-// The decorated version of `min`. It is NaI if `x` or `y` is.
-pub fn min_dec(x: DecInterval, y: DecInterval) -> DecAnswer
-    ensures { Decorated₂ binary64 (point points.min) (dec_pair_of x) (dec_pair_of y) (dec_outcome result) }
-{
-    two_dec(Binary::Min, x, y)
 }

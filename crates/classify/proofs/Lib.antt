@@ -1,3 +1,4 @@
 -- Laws of the classes.
+pub mod CompareLaws
 pub mod ClassLaws
 pub mod ClassOnce

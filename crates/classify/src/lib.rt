@@ -8,6 +8,7 @@ ghost use Rattle.end_pairs.specs.EndPairMeaning.{pair_of};
 ghost use Rattle.classify.specs.ClassMeaning.{class_of};
 
 use end_pairs::{EndPair, SIGN, is_empty_pair, key};
+use std::cmp::Ordering;
 
 // The following codes are used to represent the class of an interval:
 //
@@ -45,22 +46,14 @@ pub fn classify(x: EndPair) -> IntervalClass
     if is_empty_pair(x) {
         return IntervalClass::E;
     }
-    let a = key(x.a);
-    let b = key(x.b);
-    if ZERO < a {
-        return IntervalClass::P1;
+    match (key(x.a).cmp(&ZERO), key(x.b).cmp(&ZERO)) {
+        (Ordering::Less, Ordering::Less) => IntervalClass::N1,
+        (Ordering::Less, Ordering::Equal) => IntervalClass::N0,
+        (Ordering::Less, Ordering::Greater) => IntervalClass::M,
+        // No interval's upper end is below its lower one.
+        (Ordering::Equal, Ordering::Less) => IntervalClass::N1,
+        (Ordering::Equal, Ordering::Equal) => IntervalClass::Z,
+        (Ordering::Equal, Ordering::Greater) => IntervalClass::P0,
+        (Ordering::Greater, _) => IntervalClass::P1,
     }
-    if b < ZERO {
-        return IntervalClass::N1;
-    }
-    if a < ZERO {
-        if b == ZERO {
-            return IntervalClass::N0;
-        }
-        return IntervalClass::M;
-    }
-    if b == ZERO {
-        return IntervalClass::Z;
-    }
-    IntervalClass::P0
 }

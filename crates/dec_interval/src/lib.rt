@@ -2,12 +2,10 @@
 // intervals (`interval`) and on what goes with two ends (`decorations`).
 #![tactic(auto)]
 
-mod answers;
 mod decorated;
 mod made;
 mod parts;
 mod types;
 
-pub use answers::{DecAnswer, DecorationAnswer, PartAnswer};
 pub use made::canonical_dec;
 pub use types::DecInterval;

@@ -10,7 +10,7 @@ ghost use Rattle.dec_interval.specs.DecIntervalMeaning.{dec_pair_of};
 ghost use Rattle.dec_interval.specs.Values.{SetDec};
 
 use crate::types::DecInterval;
-use decorations::{Decoration, ILL_BYTE, decoration_byte, settled};
+use decorations::{Decoration, settled};
 use end_pairs::{EndPair, are_nans, canonical};
 use interval::Interval;
 
@@ -33,7 +33,7 @@ pub fn with_decoration(x: Interval, d: Decoration) -> DecInterval
     requires { Bare binary64 (interval.pair_of x) }
     ensures { SetDec binary64 (decoration_of d) (interval.pair_of x) (dec_pair_of result) }
 {
-    if decoration_byte(d) == ILL_BYTE {
+    if d == Decoration::Ill {
         return DecInterval::NAI;
     }
     DecInterval {

@@ -1,7 +1,11 @@
 // The decorated interval.
-use decorations::Decoration;
+ghost use Rattle.meaning.specs.Forms.{decorated_form};
+ghost use Rattle.dec_interval.specs.DecIntervalMeaning.{dec_pair_of};
+
+use decorations::{Decoration, judge_dec};
 use end_pairs::EndPair;
-use interval::Interval;
+use interval::{Form, Interval};
+use refusals::Fault;
 
 // The decorated version of `Interval`.
 #[derive(Clone, Copy)]
@@ -22,4 +26,14 @@ impl DecInterval {
         },
         d: Decoration::Ill,
     };
+}
+
+impl Form for DecInterval {
+    ghost form = { decorated_form };
+
+    ghost value = { dec_pair_of };
+
+    fn judge(self) -> Result<(), Fault> {
+        judge_dec(self.x.ends, self.d)
+    }
 }

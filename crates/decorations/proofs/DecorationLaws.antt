@@ -4,6 +4,9 @@ use mathlib.Core.Path.{◌≡◌, refl, sym, ◌∙◌, ap}
 use Prim.Native.Nat.{ℕ, ◌<◌, ◌≤◌}
 use borrow.Author.Tests.{le-leb, lt-leb}
 use lib.Dec.{eqb}
+use Rattle.std.specs.Prelude.{Err}
+use Rattle.refusals.specs.declared.Fault.{Fault}
+use Rattle.decorations.specs.DecorationBytes.{SaidBy, says_none}
 use Rattle.meaning.specs.Sets.{at, unbounded, Set, empty, span}
 use Rattle.meaning.specs.Decorations.{Decoration, Ill, Trv, Def, Dac, Com, decoration_byte, decoration_by, lower_of, settled, Common, common}
 
@@ -66,3 +69,14 @@ settled_lower (span (at a) (at b)) Trv = refl
 settled_lower (span (at a) (at b)) Def = refl
 settled_lower (span (at a) (at b)) Dac = refl
 settled_lower (span (at a) (at b)) Com = refl
+
+-- A byte that is none of the five says no decoration.
+pub says_none_lem : {b : ℕ} → (b ≡ 0 → ⊥) → (b ≡ 4 → ⊥) → (b ≡ 8 → ⊥) → (b ≡ 12 → ⊥) → (b ≡ 16 → ⊥) → SaidBy b (Err Fault.BadByte)
+says_none_lem {b} n₀ n₄ n₈ n₁₂ n₁₆ = says_none go
+  where
+    go : (d : Decoration) → b ≡ decoration_byte d → ⊥
+    go Ill = n₀
+    go Trv = n₄
+    go Def = n₈
+    go Dac = n₁₂
+    go Com = n₁₆

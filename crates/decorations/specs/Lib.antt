@@ -1,2 +1,3 @@
 -- What the contracts of decorations cite.
 pub mod DecorationMeaning
+pub mod DecorationBytes

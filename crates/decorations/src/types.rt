@@ -1,16 +1,16 @@
 // The decorations.
 
-// The decoration of a `DecInterval`, from the lowest to the highest.
-#[derive(Clone, Copy)]
+// The decoration of a `DecInterval`, from the lowest to the highest, each with its byte.
+#[derive(Clone, Copy, PartialEq, Eq, PartialOrd, Ord)]
 pub enum Decoration {
     // The "ill-formed" decoration.
-    Ill,
+    Ill = 0,
     // The "trivial" decoration.
-    Trv,
+    Trv = 4,
     // The "defined" decoration.
-    Def,
+    Def = 8,
     // The "defined and continuous" decoration.
-    Dac,
+    Dac = 12,
     // The "common" decoration.
-    Com,
+    Com = 16,
 }

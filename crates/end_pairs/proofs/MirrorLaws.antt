@@ -1,9 +1,12 @@
 -- The mirrored pair stands for the set of the negatives.
 use mathlib.Core.Path.{◌≡◌, sym, ◌∙◌, ap, ap₂, subst, subst₂}
-use mathlib.Core.Logic.{◌⊎◌, inl, inr}
-use Prim.Native.Nat.{ℕ, ◌+◌, ◌*◌, ◌-◌, ◌<◌, ◌≤◌}
+use mathlib.Core.Logic.{◌⊎◌, inl, inr, ⊎_elim}
+use Prim.Native.Nat.{ℕ, ◌+◌, ◌*◌, ◌-◌, ◌/◌, ◌%◌, ◌^◌, ◌<◌, ◌≤◌}
 use native.Mathlib.Omega.{arith}
-use Rattle.patterns.specs.Format.{Format, infinity, sign_bit}
+use Rattle.std.specs.Int.Bits.{bit_and, bit_xor, xor_add_and}
+use Rattle.std.proofs.lemmas.Nat.Bits.{and_high}
+use Rattle.patterns.proofs.ValueLaws.{le_or_lt}
+use Rattle.patterns.specs.Format.{Format, binary64, infinity, sign_bit}
 use Rattle.patterns.specs.Value.{Finite, opposite}
 use Rattle.patterns.proofs.SignLaws.{finite_opposite, opposite_opposite, opposite_positive, opposite_negative}
 use Rattle.meaning.specs.Fraction.{◌≼◌}
@@ -14,13 +17,24 @@ use Rattle.meaning.proofs.PairLaws.{opposite_infinity, opposite_minus_infinity, 
 use Rattle.end_pairs.proofs.TestLaws.{lower_pattern, upper_pattern}
 use Rattle.end_pairs.specs.Mirror.{mirror_pair}
 
--- Adding or taking away the sign bit changes the sign.
-pub sign_added : (F : Format) {b : ℕ} → b < sign_bit F → b + sign_bit F ≡ opposite F b
+-- The sign bit is added to a positive pattern, and taken from a negative one.
+sign_added : (F : Format) {b : ℕ} → b < sign_bit F → b + sign_bit F ≡ opposite F b
 sign_added F {b} h = omega (arith, opposite_positive F h)
 
-pub sign_taken : (F : Format) {b : ℕ} → b < 2 * sign_bit F → sign_bit F ≤ b → b - sign_bit F ≡ opposite F b
+sign_taken : (F : Format) {b : ℕ} → b < 2 * sign_bit F → sign_bit F ≤ b → b - sign_bit F ≡ opposite F b
 sign_taken F {b} h k =
     sym (opposite_negative F (omega arith)) ∙ ap (opposite F) (omega arith)
+
+-- To flip the sign bit of a double is to change its sign.
+pub sign_flipped : {b : ℕ} → b < 2 ^ 64 → bit_xor b (2 ^ 63) ≡ opposite binary64 b
+unfolding sign_bit
+sign_flipped {b} h =
+    let sign : bit_and b (2 ^ 63) ≡ b / 2 ^ 63 % 2 * 2 ^ 63 = and_high b 1 63 in
+    let both : bit_xor b (2 ^ 63) + bit_and b (2 ^ 63) * 2 ≡ b + 2 ^ 63 = xor_add_and b (2 ^ 63) in
+    ⊎_elim
+    (λ negative. let e : bit_xor b (2 ^ 63) ≡ b - 2 ^ 63 = omega arith in e ∙ sign_taken binary64 h negative)
+    (λ positive. let e : bit_xor b (2 ^ 63) ≡ b + 2 ^ 63 = omega arith in e ∙ sign_added binary64 positive)
+    (le_or_lt (2 ^ 63) b)
 
 module _ (F : Format) where
   opposite_lower : {b : ℕ} → Finite F b ⊎ (b ≡ minus_infinity F) → Finite F (opposite F b) ⊎ (opposite F b ≡ infinity F)

@@ -1,10 +1,10 @@
 -- Which pairs of patterns are intervals, decided by tests on the patterns.
-use mathlib.Core.Bool.{Bool}
+use mathlib.Core.Bool.{Bool, ◌&&◌}
 use mathlib.Core.Path.{◌≡◌, ap}
 use mathlib.Core.Logic.{◌⊎◌, inl, inr, ⊎_elim}
 use Prim.Native.Nat.{ℕ, ◌*◌, ◌<◌, ◌≤◌}
 use native.Mathlib.Omega.{arith}
-use lib.Dec.{ltb}
+use lib.Dec.{ltb, eqb}
 use Rattle.patterns.specs.Format.{Format, infinity, sign_bit}
 use Rattle.patterns.specs.Value.{magnitude, Finite}
 use Rattle.patterns.proofs.ValueLaws.{le_or_lt}
@@ -14,13 +14,18 @@ use Rattle.meaning.specs.Pairs.{Pair, worth, minus_infinity, Proper}
 use Rattle.meaning.proofs.FractionLaws.{lt_not_le}
 use Rattle.truth.specs.Answers.{Answers}
 use Rattle.end_pairs.specs.Keys.{key_of}
-use Rattle.truth.proofs.AnswerLaws.{answers_lt, answers_iff}
+use Rattle.truth.proofs.AnswerLaws.{answers_lt, answers_eq, answers_and, answers_iff}
 use Rattle.end_pairs.proofs.KeyLaws.{key_le, key_lt, finite_keys, key_infinity, key_minus_infinity}
 
 module _ (F : Format) {b : ℕ} (pattern : b < 2 * sign_bit F) where
   pub answers_finite : Answers (Finite F b) (ltb (magnitude F b) (infinity F))
   answers_finite =
       answers_lt (magnitude F b) (infinity F) (λ h. record { pattern = pattern; finite = h }) (λ h f. omega (arith, f.finite))
+
+-- Two patterns are those of two others.
+pub answers_both : (a b m n : ℕ) → Answers ((a ≡ m) × (b ≡ n)) (eqb a m && eqb b n)
+answers_both a b m n =
+    answers_and (answers_eq a m (λ e. e) (λ differ e. differ e)) (answers_eq b n (λ e. e) (λ differ e. differ e))
 
 pub lower_pattern : (F : Format) {a : ℕ} → Finite F a ⊎ (a ≡ minus_infinity F) → a < 2 * sign_bit F
 unfolding minus_infinity

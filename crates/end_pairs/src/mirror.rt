@@ -11,10 +11,7 @@ use crate::types::{EndPair, SIGN};
 pub fn opposite(b: u64) -> u64
     ensures { result ≡ opposite binary64 b }
 {
-    if b < SIGN {
-        return b + SIGN;
-    }
-    b - SIGN
+    b ^ SIGN
 }
 
 // The pair with an upper end, whose mirror image has the upper end `mirrored`.

@@ -14,9 +14,10 @@ pub fn key(b: u64) -> u64
     ensures { result ≡ key_of binary64 b }
 {
     if b < SIGN {
-        return SIGN + b;
+        SIGN + b
+    } else {
+        SIGN - (b - SIGN)
     }
-    SIGN - (b - SIGN)
 }
 
 // Whether `a` is worth at most `b`.
@@ -26,22 +27,16 @@ pub fn less_or_equal(a: u64, b: u64) -> bool
     key(a) <= key(b)
 }
 
-// The lesser of two ends, the first on a tie.
+// The lesser of two ends, the first on a tie. `min_by_key` would be no plainer: it takes a closure round the key.
 pub fn lesser(a: u64, c: u64) -> u64
     ensures { LesserOf binary64 a c result }
 {
-    if less_or_equal(a, c) {
-        return a;
-    }
-    c
+    if less_or_equal(a, c) { a } else { c }
 }
 
 // The greater of two ends, the second on a tie.
 pub fn greater(b: u64, d: u64) -> u64
     ensures { GreaterOf binary64 b d result }
 {
-    if less_or_equal(b, d) {
-        return d;
-    }
-    b
+    if less_or_equal(b, d) { d } else { b }
 }

@@ -9,14 +9,14 @@ ghost use Rattle.end_pairs.specs.EndPairMeaning.{pair_of};
 
 use crate::order::less_or_equal;
 use crate::tests::is_bounded;
-use crate::types::{EndPair, INFINITY, MINUS_INFINITY};
+use crate::types::EndPair;
 
 // Whether neither end bounds the interval.
 pub fn holds_all(x: EndPair) -> bool
     requires { Bare binary64 (pair_of x) }
     ensures { Answers (set_of binary64 (pair_of x) ≡ span unbounded unbounded) result }
 {
-    x.a == MINUS_INFINITY && x.b == INFINITY
+    x == EndPair::ENTIRE
 }
 
 // Whether the interval has exactly one member.

@@ -1,14 +1,14 @@
 // Which two ends are those of an interval, or of NaI.
 ghost use Rattle.std.specs.Prelude.{◌⊎◌, ◌≡◌};
-ghost use Rattle.patterns.specs.Format.{binary64, infinity};
+ghost use Rattle.patterns.specs.Format.{binary64};
 ghost use Rattle.patterns.specs.Value.{Finite};
-ghost use Rattle.meaning.specs.Pairs.{Proper, EmptyPair, Bare, NaNs, minus_infinity};
+ghost use Rattle.meaning.specs.Pairs.{Proper, EmptyPair, Bare, NaNs};
 ghost use Rattle.meaning.specs.Statement.{Ends};
 ghost use Rattle.truth.specs.Answers.{Answers};
 ghost use Rattle.end_pairs.specs.EndPairMeaning.{pair_of};
 
 use crate::order::less_or_equal;
-use crate::types::{EndPair, INFINITY, MINUS_INFINITY, QUIET_NAN, SIGN};
+use crate::types::{EndPair, INFINITY, MINUS_INFINITY, SIGN};
 
 // Whether a pattern is a finite number's.
 pub fn is_finite(b: u64) -> bool
@@ -17,35 +17,28 @@ pub fn is_finite(b: u64) -> bool
     b % SIGN < INFINITY
 }
 
-// Whether a pattern may be the lower end of an interval with members.
-fn is_lower(a: u64) -> bool
-    ensures { Answers (Finite binary64 a ⊎ (a ≡ minus_infinity binary64)) result }
+// Whether a pattern may be an end of an interval with members, on the side of an infinity.
+fn is_end(b: u64, infinity: u64) -> bool
+    ensures { Answers (Finite binary64 b ⊎ (b ≡ infinity)) result }
 {
-    is_finite(a) || a == MINUS_INFINITY
-}
-
-// Whether a pattern may be the upper end of an interval with members.
-fn is_upper(b: u64) -> bool
-    ensures { Answers (Finite binary64 b ⊎ (b ≡ infinity binary64)) result }
-{
-    is_finite(b) || b == INFINITY
+    is_finite(b) || b == infinity
 }
 
 // Whether the ends are those of an interval with members: [a, b] with a ≤ b, a not +inf, b not -inf.
 pub fn is_proper(x: EndPair) -> bool
     ensures { Answers (Proper binary64 (pair_of x)) result }
 {
-    if !is_lower(x.a) {
+    if !is_end(x.a, MINUS_INFINITY) {
         return false;
     }
-    is_upper(x.b) && less_or_equal(x.a, x.b)
+    is_end(x.b, INFINITY) && less_or_equal(x.a, x.b)
 }
 
 // Whether the ends are EMPTY's.
 pub fn is_empty_pair(x: EndPair) -> bool
     ensures { Answers (EmptyPair binary64 (pair_of x)) result }
 {
-    x.a == INFINITY && x.b == MINUS_INFINITY
+    x == EndPair::EMPTY
 }
 
 // Whether the ends are those of an interval.
@@ -59,7 +52,7 @@ pub fn is_bare(x: EndPair) -> bool
 pub fn are_nans(x: EndPair) -> bool
     ensures { Answers (NaNs binary64 (pair_of x)) result }
 {
-    x.a == QUIET_NAN && x.b == QUIET_NAN
+    x == EndPair::NANS
 }
 
 // Whether the ends are those of an interval or of NaI.

@@ -12,7 +12,7 @@ pub const MINUS_INFINITY: u64 = 0xfff0_0000_0000_0000;
 pub const QUIET_NAN: u64 = 0x7ff8_0000_0000_0000;
 
 // The bit patterns of a lower end `a` and an upper end `b`, which need not be those of an interval.
-#[derive(Clone, Copy)]
+#[derive(Clone, Copy, PartialEq, Eq)]
 pub struct EndPair {
     pub a: u64,
     pub b: u64,

@@ -1,34 +1,12 @@
--- Eight bytes put at a position of a list, and the ends of a part.
+-- Two ends put first in a list, and the ends of a part.
 use mathlib.Core.Path.{◌≡◌, refl, sym, ◌∙◌, ap, ap₂}
-use mathlib.Core.List.{List, [], ◌++◌, append_assoc, append-nil}
-use Prim.Native.Nat.{ℕ, ◌+◌, ◌-◌, ◌≤◌}
-use native.Mathlib.Nat.{le_of_eq, le_refl}
+use mathlib.Core.List.{List, ◌++◌, append_assoc}
+use Prim.Native.Nat.{ℕ, ◌+◌, ◌≤◌}
 use native.Mathlib.Omega.{arith}
-use lib.ListN.{length, take, drop, length-drop, drop_of_length-le}
-use lib.Seq.{length-take-le, take_all, take-add, take_at, take-take, drop_at, drop-drop}
-use borrow.Rule.Slice.PartMut.{put_mid}
+use lib.ListN.{length, take, drop}
+use lib.Seq.{length-take-le, take-add, take_at, take-take, drop_at, drop-drop}
 use Rattle.meaning.specs.Pairs.{Pair}
 use Rattle.meaning.specs.Bytes.{ByteOrder, big_endian, little_endian, read_end, read_pair, write_pair}
-
--- Eight bytes put at a position.
-pub placed_eight : (s d : List ℕ) (start : ℕ) → start + 8 ≤ length s → length d ≡ 8
-    → (l : List ℕ) → l ≡ take (length d) d ++ drop (length d) (take (length s - start) (drop start s))
-    → put_mid start (length s - start) s l ≡ take start s ++ (d ++ drop (start + 8) s)
-placed_eight s d start fits eight l e =
-    ap (λ (m : List ℕ). take start s ++ m) (ap₂ ◌++◌ put none ∙ append-nil (d ++ drop (start + 8) s))
-  where
-    rest : length (drop start s) ≡ length s - start
-    rest = length-drop start s
-
-    none : drop (length s - start) (drop start s) ≡ []
-    none = drop_of_length-le (drop start s) {i = length s - start} (le_of_eq rest)
-
-    after : drop (length d) (take (length s - start) (drop start s)) ≡ drop (start + 8) s
-    after =
-        ap₂ drop eight (take_all (length s - start) (drop start s) (le_of_eq rest)) ∙ drop-drop 8 start s
-
-    put : l ≡ d ++ drop (start + 8) s
-    put = e ∙ ap₂ ◌++◌ (take_all (length d) d (le_refl (length d))) after
 
 -- Two times eight bytes put first.
 pub placed_both : (s l u first second : List ℕ) → length l ≡ 8

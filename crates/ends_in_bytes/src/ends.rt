@@ -15,19 +15,15 @@ fn eight_at(s: &[u8], start: usize) -> [u8; 8]
     requires { start + 8 ≤ length s.now }
     ensures { result ≡ take 8 (drop start s.now) }
 {
-    let mut d = [0u8; 8];
-    let end = start + 8;
-    d.copy_from_slice(&s[start..end]);
-    d
+    *s[start..].first_chunk().unwrap()
 }
 
-// Puts eight bytes at a position.
+// Puts eight bytes at a position. No `as_chunks_mut`: it does not say what the slice ends as.
 fn put_eight(s: &mut [u8], start: usize, d: [u8; 8])
     requires { start + 8 ≤ length s.old }
     ensures { s.new ≡ take start s.old ++ (d ++ drop (start + 8) s.old) }
 {
-    let end = start + 8;
-    s[start..end].copy_from_slice(&d);
+    s[start..start + 8].copy_from_slice(&d);
 }
 
 // The two ends that the sixteen bytes from a position on stand for.

@@ -1,3 +1,2 @@
--- Laws of operation names, and of negation.
-pub mod NameLaws
+-- Laws of negation.
 pub mod NegationLaws

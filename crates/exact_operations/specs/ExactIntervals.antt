@@ -4,4 +4,4 @@ use Rattle.interval.specs.IntervalMeaning.{pair_of}
 use Rattle.exact_operations.specs.declared.ExactInterval.{ExactInterval}
 
 abbrev pub exact_pair_of : ExactInterval → ExactPair
-exact_pair_of z = record { pair = pair_of z.x; lower_exact = z.lower_exact; upper_exact = z.upper_exact }
+exact_pair_of z = record { pair = pair_of z.x; lower_exact = z.exact.lower; upper_exact = z.exact.upper }

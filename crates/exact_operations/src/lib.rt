@@ -2,7 +2,6 @@
 // name (`operations`), whose answers they give, and on what makes an end exact (`arith`).
 #![tactic(auto)]
 
-ghost use Rattle.std.specs.Prelude.{◌≡◌};
 ghost use Rattle.patterns.specs.Format.{binary64};
 ghost use Rattle.meaning.specs.Pairs.{Bare, set_of};
 ghost use Rattle.meaning.specs.Points.{neg};
@@ -11,7 +10,7 @@ ghost use Rattle.meaning.specs.Exactness.{ExactHullOf};
 ghost use Rattle.end_pairs.specs.EndPairMeaning as two;
 ghost use Rattle.interval.specs.IntervalMeaning.{pair_of};
 ghost use Rattle.arith.specs.ExactFor.{ExactFor};
-ghost use Rattle.operation_names.specs.Names.{binary_of, arithmetic_of};
+ghost use Rattle.operation_names.specs.Names.{arithmetic_of};
 ghost use Rattle.exact_operations.specs.ExactIntervals.{exact_pair_of};
 
 use arith::{
@@ -26,8 +25,7 @@ use operations::{combine, image};
 #[derive(Clone, Copy)]
 pub struct ExactInterval {
     pub x: Interval,
-    pub lower_exact: bool,
-    pub upper_exact: bool,
+    pub exact: Exactness,
 }
 
 // Negation rounds nothing.
@@ -37,20 +35,7 @@ pub fn negate_exact(x: Interval) -> ExactInterval
 {
     ExactInterval {
         x: image(Unary::Neg, x),
-        lower_exact: true,
-        upper_exact: true,
-    }
-}
-
-// The name among those of all operations of two operands.
-fn named(o: Arithmetic) -> Binary
-    ensures { binary_of result ≡ arithmetic_of o }
-{
-    match o {
-        Arithmetic::Add => Binary::Add,
-        Arithmetic::Sub => Binary::Sub,
-        Arithmetic::Mul => Binary::Mul,
-        Arithmetic::Div => Binary::Div,
+        exact: Exactness::BOTH,
     }
 }
 
@@ -70,11 +55,8 @@ pub fn combine_exact(o: Arithmetic, x: Interval, y: Interval) -> ExactInterval
     requires { Bare binary64 (pair_of x) × Bare binary64 (pair_of y) }
     ensures { ExactHullOf binary64 (Result₂ (arithmetic_of o) (set_of binary64 (pair_of x)) (set_of binary64 (pair_of y))) (exact_pair_of result) }
 {
-    let z = combine(named(o), x, y);
-    let exact = exactness(o, x.ends, y.ends);
     ExactInterval {
-        x: z,
-        lower_exact: exact.lower,
-        upper_exact: exact.upper,
+        x: combine(Binary::from(o), x, y),
+        exact: exactness(o, x.ends, y.ends),
     }
 }

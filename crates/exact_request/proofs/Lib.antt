@@ -1,2 +1,3 @@
--- Laws of flags in lent bytes.
+-- Laws of flags in lent bytes, and of numbers that are refused.
 pub mod FlagByteLaws
+pub mod AskedLaws

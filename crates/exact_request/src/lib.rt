@@ -2,24 +2,26 @@
 // (`exact_operations`), and on operands that are read as the bare request reads them (`request_operands`).
 #![tactic(auto)]
 
-ghost use Rattle.std.specs.Prelude.{[], ◌∷◌, ◌≡◌, length};
+ghost use Rattle.std.specs.Prelude.{[], ◌≡◌, length};
 ghost use Rattle.patterns.specs.Format.{binary64};
 ghost use Rattle.meaning.specs.Calls.{Called};
 ghost use Rattle.meaning.specs.Points.{neg};
-ghost use Rattle.meaning.specs.Requests.{unary, binary, bare_size, Requested};
-ghost use Rattle.meaning.specs.ExactRequests.{ExactOutcome, ExactRequest, arithmetic, write_exact};
+ghost use Rattle.meaning.specs.Requests.{unary, binary, bare_size};
+ghost use Rattle.meaning.specs.ExactRequests.{ExactOutcome, ExactRequest, write_exact};
+ghost use Rattle.refusals.specs.RefusalMeaning.{said};
 ghost use Rattle.operation_names.specs.Names.{arithmetic_of};
+ghost use Rattle.operation_names.specs.Numbers.{asked_exact_of};
 ghost use Rattle.exact_operations.specs.ExactIntervals.{exact_pair_of};
 ghost use Rattle.request_laws.specs.Reads.{OnOperands};
 
 use ends_in_bytes::{ByteOrder, write_ends};
 use exact_operations::{ExactInterval, combine_exact, negate_exact};
-use interval::Answer;
-use lent_calls::{BARE_REQUEST, FIRST_AT, NUMBER_AT, flag_byte};
-use lent_intervals::{BARE, read_bare};
-use operation_names::{Arithmetic, AskedExact, numbered_exact};
+use interval::Interval;
+use lent_calls::{BARE_REQUEST, FIRST_AT, NUMBER_AT};
+use lent_intervals::{BARE, InBytes};
+use operation_names::{Arithmetic, AskedExact};
 use refusals::Refusal;
-use request_operands::bare::{Both, read_both};
+use request_operands::read_both;
 
 // Where the flag of the lower end stands in an answer, and where that of the upper end.
 const LOWER_EXACT_AT: usize = BARE;
@@ -36,58 +38,50 @@ fn write_exact(z: ExactInterval, output: &mut [u8])
 {
     let ends = z.x.ends;
     write_ends(output, ends, ByteOrder::Big);
-    output[LOWER_EXACT_AT] = flag_byte(z.lower_exact);
-    output[UPPER_EXACT_AT] = flag_byte(z.upper_exact);
+    output[LOWER_EXACT_AT] = u8::from(z.exact.lower);
+    output[UPPER_EXACT_AT] = u8::from(z.exact.upper);
 }
 
-fn negate(input: &[u8], output: &mut [u8]) -> Refusal
+fn negate(input: &[u8], output: &mut [u8]) -> Result<(), Refusal>
     requires { (length input.now ≡ 33) × (length output.old ≡ 18) }
-    ensures { Called [] (OnOperands bare_size (ExactOutcome binary64) (unary neg)) input.now output.old result output.new }
+    ensures { Called [] (OnOperands bare_size (ExactOutcome binary64) (unary neg)) input.now output.old (said result) output.new }
 {
-    match read_bare(input, FIRST_AT, ByteOrder::Big) {
-        Answer::Given(x) => {
-            write_exact(negate_exact(x), output);
-            Refusal::NONE
-        }
-        Answer::Refused(refusal) => refusal,
-    }
+    let x = Interval::read(input, FIRST_AT, ByteOrder::Big)?;
+    write_exact(negate_exact(x), output);
+    Ok(())
 }
 
-fn calculate(o: Arithmetic, input: &[u8], output: &mut [u8]) -> Refusal
+fn calculate(o: Arithmetic, input: &[u8], output: &mut [u8]) -> Result<(), Refusal>
     requires { (length input.now ≡ 33) × (length output.old ≡ 18) }
-    ensures { Called [] (OnOperands bare_size (ExactOutcome binary64) (binary (arithmetic_of o))) input.now output.old result output.new }
+    ensures { Called [] (OnOperands bare_size (ExactOutcome binary64) (binary (arithmetic_of o))) input.now output.old (said result) output.new }
 {
-    match read_both(input) {
-        Both::Read(x, y) => {
-            write_exact(combine_exact(o, x, y), output);
-            Refusal::NONE
-        }
-        Both::Refused(refusal) => refusal,
-    }
+    let (x, y) = read_both::<Interval>(input)?;
+    write_exact(combine_exact(o, x, y), output);
+    Ok(())
 }
 
-// Does what the number asks for. Negation does not read the second operand.
-fn answer_exact(input: &[u8], output: &mut [u8]) -> Refusal
+// Does what is asked for. Negation does not read the second operand.
+fn answer_exact(asked: AskedExact, input: &[u8], output: &mut [u8]) -> Result<(), Refusal>
     requires { (length input.now ≡ 33) × (length output.old ≡ 18) }
-    ensures { Called (arithmetic ∷ []) (Requested bare_size (ExactOutcome binary64)) input.now output.old result output.new }
+    ensures { Called [] (OnOperands bare_size (ExactOutcome binary64) (asked_exact_of asked)) input.now output.old (said result) output.new }
 {
-    match numbered_exact(input[NUMBER_AT]) {
+    match asked {
         AskedExact::Neg => negate(input, output),
         AskedExact::Two(o) => calculate(o, input, output),
-        AskedExact::Nothing => Refusal::UNKNOWN_OPERATION,
     }
 }
 
 // Reads a bare request for an arithmetic operation, and writes its answer and which ends are exact, or refuses it and writes
 // nothing.
-pub fn request_bare_exact(input: &[u8], output: &mut [u8]) -> Refusal
-    ensures { ExactRequest binary64 input.now output.old result output.new }
+pub fn request_bare_exact(input: &[u8], output: &mut [u8]) -> Result<(), Refusal>
+    ensures { ExactRequest binary64 input.now output.old (said result) output.new }
 {
     if input.len() != BARE_REQUEST {
-        return Refusal::WRONG_LENGTH;
+        return Err(Refusal::WrongLength);
     }
     if output.len() != EXACT {
-        return Refusal::WRONG_ROOM;
+        return Err(Refusal::WrongRoom);
     }
-    answer_exact(input, output)
+    let asked = AskedExact::try_from(input[NUMBER_AT])?;
+    answer_exact(asked, input, output)
 }

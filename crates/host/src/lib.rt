@@ -16,7 +16,7 @@ use lent_calls::packed;
 pub extern "C" fn muenglavot_request_bare(input: &[u8], output: &mut [u8]) -> u32
     ensures { Packed (BareRequest binary64) input.now output.old result output.new }
 {
-    packed(bare_request::request_bare(input, output))
+    packed(requests::request_bare(input, output))
 }
 
 // One arithmetic operation on bare intervals, and which ends are exact: 33 bytes in, 18 out.
@@ -32,7 +32,7 @@ pub extern "C" fn muenglavot_request_bare_exact(input: &[u8], output: &mut [u8])
 pub extern "C" fn muenglavot_request_decorated(input: &[u8], output: &mut [u8]) -> u32
     ensures { Packed (DecoratedRequest binary64) input.now output.old result output.new }
 {
-    packed(decorated_request::request_decorated(input, output))
+    packed(requests::request_decorated(input, output))
 }
 
 // One bare interval from big to little endian, 16 bytes each.

@@ -11,12 +11,12 @@ fn end_of_none(f: Function) -> u64
     ensures { UpperMade binary64 (operation f) (infinity binary64) result }
 {
     match f {
-        Function::Ceil => INFINITY,
-        Function::Floor => INFINITY,
-        Function::Round => INFINITY,
-        Function::RoundTiesEven => INFINITY,
         Function::Sign => ONE,
-        Function::Trunc => INFINITY,
+        Function::Ceil
+        | Function::Floor
+        | Function::Round
+        | Function::RoundTiesEven
+        | Function::Trunc => INFINITY,
     }
 }
 

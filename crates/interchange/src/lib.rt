@@ -3,4 +3,5 @@
 #![tactic(auto)]
 
 pub mod bare;
+mod bytes;
 pub mod decorated;

@@ -1,5 +1,4 @@
 -- From judgements to statements, and the one answer of each.
-pub mod StatementLaws
 pub mod Codes
 pub mod Once
 pub mod OneAnswer

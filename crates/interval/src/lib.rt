@@ -2,11 +2,9 @@
 // on two ends (`end_pairs`) and their class (`classify`).
 #![tactic(auto)]
 
-mod answers;
 mod bare;
-mod judging;
+mod form;
 mod types;
 
-pub use answers::{Answer, BoolAnswer, ClassAnswer, EndAnswer, Verdict};
-pub use judging::judge;
+pub use form::Form;
 pub use types::Interval;

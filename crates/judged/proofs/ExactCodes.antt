@@ -1,20 +1,21 @@
--- An answer with flags is known by its outcome.
+-- A result with the exactness of each end is known by its outcome.
 use mathlib.Core.Path.{◌≡◌, refl}
-use Rattle.meaning.specs.Statement.{Outcome, refused, given}
+use Rattle.std.specs.Prelude.{Result}
 use Rattle.meaning.specs.Exactness.{ExactPair}
-use Rattle.interval.proofs.Codes.{injective, interval_of}
-use Rattle.judged.specs.ExactAnswers.{exact_outcome}
-use Rattle.judged.specs.declared.ExactAnswer.{ExactAnswer}
+use Rattle.refusals.specs.RefusalMeaning.{outcome_of}
+use Rattle.refusals.specs.declared.Refusal.{Refusal}
+use Rattle.refusals.proofs.Known.{result_known}
+use Rattle.interval.proofs.Codes.{interval_of}
+use Rattle.exact_operations.specs.ExactIntervals.{exact_pair_of}
+use Rattle.exact_operations.specs.declared.ExactInterval.{ExactInterval}
 
-exact_answer_of : Outcome ExactPair → ExactAnswer
-exact_answer_of (given z) = ExactAnswer.Given (record { x = interval_of z.pair; lower_exact = z.lower_exact; upper_exact = z.upper_exact })
-exact_answer_of (refused r) = ExactAnswer.Refused r
+exact_interval_of : ExactPair → ExactInterval
+exact_interval_of z = record { x = interval_of z.pair; exact = record { lower = z.lower_exact; upper = z.upper_exact } }
 
-exact_answer_back : (r : ExactAnswer) → exact_answer_of (exact_outcome r) ≡ r
-unfolding exact_answer_of
-exact_answer_back (ExactAnswer.Given z) = refl
-exact_answer_back (ExactAnswer.Refused r) = refl
+exact_back : (z : ExactInterval) → exact_interval_of (exact_pair_of z) ≡ z
+unfolding exact_interval_of
+exact_back z = refl
 
--- Two answers with the same outcome are equal.
-pub exact_answer_known : {r s : ExactAnswer} → exact_outcome r ≡ exact_outcome s → r ≡ s
-exact_answer_known = injective exact_answer_of exact_answer_back
+-- Two results with the same outcome are equal.
+pub exact_known : {r s : Result ExactInterval Refusal} → outcome_of exact_pair_of r ≡ outcome_of exact_pair_of s → r ≡ s
+exact_known = result_known exact_interval_of exact_back

@@ -12,15 +12,7 @@ use decorations::Decoration;
 pub fn is_zero(y: IntervalClass) -> bool
     ensures { result ≡ is_zero (class_of y) }
 {
-    match y {
-        IntervalClass::E => false,
-        IntervalClass::M => false,
-        IntervalClass::N0 => false,
-        IntervalClass::N1 => false,
-        IntervalClass::P0 => false,
-        IntervalClass::P1 => false,
-        IntervalClass::Z => true,
-    }
+    matches!(y, IntervalClass::Z)
 }
 
 // What division allows at the most: Trv if the divisor holds 0.
@@ -28,12 +20,8 @@ pub fn allowed(y: IntervalClass) -> Decoration
     ensures { decoration_of result ≡ allowed_by (class_of y) }
 {
     match y {
-        IntervalClass::E => Decoration::Com,
-        IntervalClass::M => Decoration::Trv,
-        IntervalClass::N0 => Decoration::Trv,
-        IntervalClass::N1 => Decoration::Com,
-        IntervalClass::P0 => Decoration::Trv,
-        IntervalClass::P1 => Decoration::Com,
-        IntervalClass::Z => Decoration::Trv,
+        IntervalClass::E | IntervalClass::N1 | IntervalClass::P1 => Decoration::Com,
+        IntervalClass::M | IntervalClass::N0 | IntervalClass::P0 | IntervalClass::Z =>
+            Decoration::Trv,
     }
 }

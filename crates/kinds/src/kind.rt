@@ -11,13 +11,10 @@ pub fn kind_of(x: IntervalClass) -> Kind
     ensures { result ≡ kind_of (class_of x) }
 {
     match x {
-        IntervalClass::E => Kind::Z,
         IntervalClass::M => Kind::M,
-        IntervalClass::N0 => Kind::N,
-        IntervalClass::N1 => Kind::N,
-        IntervalClass::P0 => Kind::P,
-        IntervalClass::P1 => Kind::P,
-        IntervalClass::Z => Kind::Z,
+        IntervalClass::N0 | IntervalClass::N1 => Kind::N,
+        IntervalClass::P0 | IntervalClass::P1 => Kind::P,
+        IntervalClass::Z | IntervalClass::E => Kind::Z,
     }
 }
 
@@ -26,9 +23,8 @@ pub fn mirrored_kind(x: Kind) -> Kind
     ensures { result ≡ mirror_kind x }
 {
     match x {
-        Kind::M => Kind::M,
         Kind::N => Kind::P,
         Kind::P => Kind::N,
-        Kind::Z => Kind::Z,
+        Kind::M | Kind::Z => x,
     }
 }

@@ -1,14 +1,12 @@
-// What calls on lent bytes share: how long their bytes are, how a state and a truth value are written, and a refusal packed. It stands on the sizes of
+// What calls on lent bytes share: how long their bytes are, how a state is written, and a refusal packed. It stands on the sizes of
 // intervals (`lent_intervals`).
 #![tactic(auto)]
 
-mod flag;
 mod number;
 mod state;
 
-pub use flag::flag_byte;
 use lent_intervals::{BARE, DECORATED};
-pub use number::packed;
+pub use number::{number_and_place, packed};
 pub use state::write_state;
 
 // Where the number stands, of the operation in a request and of the refusal in a reply.

@@ -1,16 +1,26 @@
-// What a call says as one number, for hosts in C.
+// What a call says, as numbers.
 ghost use Rattle.std.specs.Prelude.{◌≡◌, ◌+◌, ◌*◌};
-ghost use Rattle.request_laws.specs.Calls.{Small};
+ghost use Rattle.refusals.specs.RefusalMeaning.{said};
 
 use refusals::Refusal;
 
 // The weight of the place.
 const PLACE: u32 = 256;
 
-// The number plus 256 times the place.
-pub fn packed(refusal: Refusal) -> u32
-    requires { Small refusal }
-    ensures { result ≡ refusal.number + 256 * refusal.place }
+// The number and the place of document 01, both 0 of a call that is answered.
+pub fn number_and_place(answer: Result<(), Refusal>) -> (u8, u8)
+    ensures { result ≡ ((said answer).number, (said answer).place) }
 {
-    refusal.number + PLACE * refusal.place
+    match answer {
+        Ok(()) => (0, 0),
+        Err(refusal) => (refusal.number(), refusal.place()),
+    }
+}
+
+// The number plus 256 times the place, for hosts in C.
+pub fn packed(answer: Result<(), Refusal>) -> u32
+    ensures { result ≡ (said answer).number + 256 * (said answer).place }
+{
+    let (number, place) = number_and_place(answer);
+    u32::from(number) + PLACE * u32::from(place)
 }

@@ -21,7 +21,7 @@ pub byte_part : (start : ℕ) (s : List ℕ) → get_or (take 17 (drop start s))
 byte_part start s = get_or-take 17 (drop start s) 16 0 (lit< tt) ∙ get_or-drop start s 16 0
 
 -- What is written before nothing is the whole.
-pub whole : (n : ℕ) (s : List ℕ) {l p : List ℕ} → l ≡ p ++ drop n s → length s ≡ n → l ≡ p
+whole : (n : ℕ) (s : List ℕ) {l p : List ℕ} → l ≡ p ++ drop n s → length s ≡ n → l ≡ p
 whole n s {p = p} e f = e ∙ ap (λ (t : List ℕ). p ++ t) (drop_of_length-le s {i = n} (le_of_eq f)) ∙ append-nil p
 
 -- The byte behind what is written is replaced, and so is written itself.

@@ -3,8 +3,7 @@
 #![tactic(auto)]
 
 mod canonical;
-mod slices;
+mod in_bytes;
 mod taken_apart;
 
-pub use slices::{BARE, DECORATED, read_bare, read_decorated, write_bare, write_decorated};
-pub use taken_apart::{ByteDecoration, decoration_of};
+pub use in_bytes::{BARE, DECORATED, InBytes};

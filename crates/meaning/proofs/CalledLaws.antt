@@ -2,7 +2,7 @@
 use mathlib.Core.Path.{◌≡◌, refl, sym, ◌∙◌, ap}
 use mathlib.Core.List.{List, [], ◌∷◌}
 use Prim.Native.Nat.{ℕ}
-use Rattle.refusals.specs.declared.Refusal.{Refusal}
+use Rattle.meaning.specs.Refusals.{Refusal}
 use Rattle.meaning.specs.Statement.{Outcome, refused, given, refusal_at, no_refusal}
 use Rattle.meaning.specs.Calls.{Left, left_by, Test, Tried, failed, passed, Chain, Called}
 use Rattle.meaning.proofs.Unique.{One}

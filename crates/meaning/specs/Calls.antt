@@ -1,6 +1,6 @@
 -- Calls on lent output: tests that are tried in an order that each call fixes, then the outcome, and what is left.
 use Rattle.std.specs.Prelude.{◌≡◌, List, [], ◌∷◌, ℕ}
-use Rattle.refusals.specs.declared.Refusal.{Refusal}
+use Rattle.meaning.specs.Refusals.{Refusal}
 use Rattle.meaning.specs.Statement.{Outcome, refused, given, refusal_at, no_refusal}
 
 -- What a call leaves, as one value: its refusal, or that there is none, and the whole output.

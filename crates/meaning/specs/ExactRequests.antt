@@ -1,7 +1,7 @@
 -- The bare request that reports which ends are exact: "the bare request for operations 1 to 5 with 18 bytes out: the answer's 16
 -- bytes, then 1 or 0 for the lower and for the upper end".
 use Rattle.std.specs.Prelude.{List, [], ◌∷◌, ◌++◌, ℕ, ◌≤◌, get_or}
-use Rattle.refusals.specs.declared.Refusal.{Refusal}
+use Rattle.meaning.specs.Refusals.{Refusal}
 use Rattle.patterns.specs.Format.{Format}
 use Rattle.meaning.specs.Results.{Result₁, Result₂}
 use Rattle.meaning.specs.Statement.{Outcome, Answered₁, Answered₂}

@@ -1,4 +1,5 @@
 -- The meaning of intervals and of every operation, to be held against document 01 and IEEE 1788-2015.
+pub mod Refusals
 pub mod Fraction
 pub mod Sets
 pub mod Pairs
@@ -14,6 +15,7 @@ pub mod Overlap
 pub mod Comparisons
 pub mod Bytes
 pub mod Forms
+pub mod FormStatements
 pub mod Calls
 pub mod Requests
 pub mod ExactRequests

@@ -1,7 +1,7 @@
 -- Requests and codecs on bytes, by document 01: "A request is one operation number and two operands, big endian".
 use Rattle.std.specs.Prelude.{Bool, true, false, ◌≡◌, List, [], ◌∷◌, ℕ, zero, suc, ◌+◌, ◌-◌, length, take, drop, get_or}
 use Rattle.truth.specs.Answers.{Answers}
-use Rattle.refusals.specs.declared.Refusal.{Refusal}
+use Rattle.meaning.specs.Refusals.{Refusal}
 use Rattle.patterns.specs.Format.{Format}
 use Rattle.meaning.specs.Sets.{Set}
 use Rattle.meaning.specs.Pairs.{set_of}
@@ -120,6 +120,11 @@ DecoratedOutcome F overlap first second o =
     Answered₂ (JudgedDecBytes F big_endian) (Read₂ (λ x y. Written (write_state decorated_size) (DecoratedOverlap F x y))) first second o
 DecoratedOutcome F (comparison c) first second o = ComparisonOutcome F decorated_form c first second o
 
+-- The outcome of an operation on the bytes of its operands, in either form.
+abbrev pub OutcomeIn : Format → Form → Asked → (first second : List ℕ) → Outcome (List ℕ) → Type 0
+OutcomeIn F bare_form q first second o = BareOutcome F q first second o
+OutcomeIn F decorated_form q first second o = DecoratedOutcome F q first second o
+
 -- The operation number, and the two operands of a given size behind it.
 pub record Asks (input : List ℕ) (q : Asked) : Type 0 where
   pub is : get_or input 0 0 ≡ operation_number q
@@ -162,7 +167,10 @@ request_tests size = tests_by size size numbered
 abbrev pub codec_tests : (size : ℕ) → List (Test (List ℕ))
 codec_tests size = input_of size ∷ output_of size ∷ []
 
--- The statements of the two request calls.
+-- The statement of a request call in either form, and those of the two.
+abbrev pub Request : Format → Form → (input before : List ℕ) (refusal : Refusal) (after : List ℕ) → Type 0
+Request F f input before refusal after = Called (request_tests (size_of f)) (Requested (size_of f) (OutcomeIn F f)) input before refusal after
+
 abbrev pub BareRequest : Format → (input before : List ℕ) (refusal : Refusal) (after : List ℕ) → Type 0
 BareRequest F input before refusal after = Called (request_tests bare_size) (Requested bare_size (BareOutcome F)) input before refusal after
 

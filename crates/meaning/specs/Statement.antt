@@ -1,6 +1,6 @@
 -- The statements that public functions make: for every input, the whole outcome.
 use Rattle.std.specs.Prelude.{◌≡◌, ◌⊎◌, ℕ}
-use Rattle.refusals.specs.declared.Refusal.{Refusal}
+use Rattle.meaning.specs.Refusals.{Refusal}
 use Rattle.patterns.specs.Format.{Format, quiet_nan}
 use Rattle.patterns.specs.Value.{Finite}
 use Rattle.meaning.specs.Fraction.{Fraction}

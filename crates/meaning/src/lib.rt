@@ -1,3 +1,3 @@
 // What every operation means: definitions from document 01, IEEE 754 and IEEE 1788-2015, and their laws. There is no code here.
-// It stands on formats and values (`patterns`) and on the struct of a refusal, which code and definitions share.
+// It stands on formats and values (`patterns`).
 #![tactic(auto)]

@@ -1,3 +1,2 @@
 -- Laws of operation numbers.
-pub mod NumberLaws
 pub mod AskedLaws

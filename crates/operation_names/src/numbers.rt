@@ -1,10 +1,8 @@
 // The operation numbers of document 01, and the operations that they stand for.
-ghost use Rattle.std.specs.Prelude.{◌≡◌};
-ghost use Rattle.meaning.specs.Requests.{unary, binary, comparison, operation_number};
-ghost use Rattle.operation_names.specs.Names.{unary_of, binary_of, arithmetic_of, comparison_of};
-ghost use Rattle.operation_names.specs.Numbers.{OneOperand, TwoOperands, Comparing, Rounding, AskedBy, AskedExactBy};
+ghost use Rattle.operation_names.specs.Numbers.{AskedBy, AskedExactBy};
 
 use crate::names::{Arithmetic, Binary, Comparison, Unary};
+use refusals::Refusal;
 use wholes::Function;
 
 // What an operation number asks for.
@@ -14,8 +12,6 @@ pub enum Asked {
     Two(Binary),
     Overlap,
     Comparison(Comparison),
-    // The number is none of an operation.
-    Nothing,
 }
 
 // What it asks of a call that takes the arithmetic operations alone.
@@ -23,8 +19,6 @@ pub enum Asked {
 pub enum AskedExact {
     Neg,
     Two(Arithmetic),
-    // The number is none of an arithmetic operation.
-    Nothing,
 }
 
 const NEG: u8 = 1;
@@ -87,87 +81,56 @@ const GREATEST: u8 = 255;
 // The number behind the last of an arithmetic operation.
 const BEHIND_ARITHMETIC: u8 = 6;
 
-fn unary_numbered(number: u8) -> Unary
-    requires { OneOperand number }
-    ensures { number ≡ operation_number (unary (unary_of result)) }
-{
-    match number {
-        NEG => Unary::Neg,
-        ABS => Unary::Abs,
-        CEIL => Unary::Whole(Function::Ceil),
-        FLOOR => Unary::Whole(Function::Floor),
-        ROUND => Unary::Whole(Function::Round),
-        ROUND_TIES_EVEN => Unary::Whole(Function::RoundTiesEven),
-        SIGN => Unary::Whole(Function::Sign),
-        _ => Unary::Whole(Function::Trunc),
+impl TryFrom<u8> for Asked {
+    type Error = Refusal;
+
+    ghost try_from_gives = { AskedBy };
+
+    fn try_from(number: u8) -> Result<Asked, Refusal> {
+        match number {
+            NEG => Ok(Asked::One(Unary::Neg)),
+            ADD => Ok(Asked::Two(Binary::Add)),
+            SUB => Ok(Asked::Two(Binary::Sub)),
+            MUL => Ok(Asked::Two(Binary::Mul)),
+            DIV => Ok(Asked::Two(Binary::Div)),
+            CONVEX_HULL => Ok(Asked::Two(Binary::ConvexHull)),
+            INTERSECTION => Ok(Asked::Two(Binary::Intersection)),
+            MAX => Ok(Asked::Two(Binary::Max)),
+            MIN => Ok(Asked::Two(Binary::Min)),
+            ABS => Ok(Asked::One(Unary::Abs)),
+            CEIL => Ok(Asked::One(Unary::Whole(Function::Ceil))),
+            FLOOR => Ok(Asked::One(Unary::Whole(Function::Floor))),
+            ROUND => Ok(Asked::One(Unary::Whole(Function::Round))),
+            ROUND_TIES_EVEN => Ok(Asked::One(Unary::Whole(Function::RoundTiesEven))),
+            SIGN => Ok(Asked::One(Unary::Whole(Function::Sign))),
+            TRUNC => Ok(Asked::One(Unary::Whole(Function::Trunc))),
+            OVERLAP => Ok(Asked::Overlap),
+            EQUAL => Ok(Asked::Comparison(Comparison::Equal)),
+            SUBSET => Ok(Asked::Comparison(Comparison::Subset)),
+            INTERIOR => Ok(Asked::Comparison(Comparison::Interior)),
+            DISJOINT => Ok(Asked::Comparison(Comparison::Disjoint)),
+            LESS => Ok(Asked::Comparison(Comparison::Less)),
+            STRICT_LESS => Ok(Asked::Comparison(Comparison::StrictLess)),
+            PRECEDES => Ok(Asked::Comparison(Comparison::Precedes)),
+            STRICT_PRECEDES => Ok(Asked::Comparison(Comparison::StrictPrecedes)),
+            BEFORE | BEHIND..=GREATEST => Err(Refusal::UnknownOperation),
+        }
     }
 }
 
-fn binary_numbered(number: u8) -> Binary
-    requires { TwoOperands number }
-    ensures { number ≡ operation_number (binary (binary_of result)) }
-{
-    match number {
-        ADD => Binary::Add,
-        SUB => Binary::Sub,
-        MUL => Binary::Mul,
-        DIV => Binary::Div,
-        CONVEX_HULL => Binary::ConvexHull,
-        INTERSECTION => Binary::Intersection,
-        MAX => Binary::Max,
-        _ => Binary::Min,
-    }
-}
+impl TryFrom<u8> for AskedExact {
+    type Error = Refusal;
 
-fn comparison_numbered(number: u8) -> Comparison
-    requires { Comparing number }
-    ensures { number ≡ operation_number (comparison (comparison_of result)) }
-{
-    match number {
-        EQUAL => Comparison::Equal,
-        SUBSET => Comparison::Subset,
-        INTERIOR => Comparison::Interior,
-        DISJOINT => Comparison::Disjoint,
-        LESS => Comparison::Less,
-        STRICT_LESS => Comparison::StrictLess,
-        PRECEDES => Comparison::Precedes,
-        _ => Comparison::StrictPrecedes,
-    }
-}
+    ghost try_from_gives = { AskedExactBy };
 
-// The operation with a number. Numbers from ABS to TRUNC and NEG are of one operand, those from ADD to MIN of two, and so are
-// OVERLAP, whose answer is a state, and those from EQUAL to STRICT_PRECEDES, whose answer is yes or no. All others are refused.
-pub fn numbered(number: u8) -> Asked
-    ensures { AskedBy number result }
-{
-    match number {
-        NEG | ABS..=TRUNC => Asked::One(unary_numbered(number)),
-        ADD..=MIN => Asked::Two(binary_numbered(number)),
-        OVERLAP => Asked::Overlap,
-        EQUAL..=STRICT_PRECEDES => Asked::Comparison(comparison_numbered(number)),
-        BEFORE | BEHIND..=GREATEST => Asked::Nothing,
-    }
-}
-
-fn arithmetic_numbered(number: u8) -> Arithmetic
-    requires { Rounding number }
-    ensures { number ≡ operation_number (binary (arithmetic_of result)) }
-{
-    match number {
-        ADD => Arithmetic::Add,
-        SUB => Arithmetic::Sub,
-        MUL => Arithmetic::Mul,
-        _ => Arithmetic::Div,
-    }
-}
-
-// The arithmetic operation with a number. NEG is of one operand, and the numbers from ADD to DIV are of two. All others are refused.
-pub fn numbered_exact(number: u8) -> AskedExact
-    ensures { AskedExactBy number result }
-{
-    match number {
-        NEG => AskedExact::Neg,
-        ADD..=DIV => AskedExact::Two(arithmetic_numbered(number)),
-        BEFORE | BEHIND_ARITHMETIC..=GREATEST => AskedExact::Nothing,
+    fn try_from(number: u8) -> Result<AskedExact, Refusal> {
+        match number {
+            NEG => Ok(AskedExact::Neg),
+            ADD => Ok(AskedExact::Two(Arithmetic::Add)),
+            SUB => Ok(AskedExact::Two(Arithmetic::Sub)),
+            MUL => Ok(AskedExact::Two(Arithmetic::Mul)),
+            DIV => Ok(AskedExact::Two(Arithmetic::Div)),
+            BEFORE | BEHIND_ARITHMETIC..=GREATEST => Err(Refusal::UnknownOperation),
+        }
     }
 }

@@ -1,3 +1,3 @@
 -- From what the shared steps find to the statements of operations.
-pub mod InTurnLaws
+pub mod TwoLaws
 pub mod SortedLaws

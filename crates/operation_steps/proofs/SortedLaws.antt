@@ -3,6 +3,7 @@ use mathlib.Core.Bool.{Bool, true, false}
 use mathlib.Core.Path.{◌≡◌, sym, ◌∙◌, ap, subst, subst⁻¹}
 use mathlib.Core.Logic.{inl, inr}
 use lib.Dec.{leb}
+use Rattle.std.specs.Prelude.{Option, Some, None}
 use Rattle.patterns.specs.Format.{Format}
 use Rattle.meaning.specs.Fraction.{Fraction}
 use Rattle.meaning.specs.Sets.{Set}
@@ -15,7 +16,6 @@ use Rattle.decorations.specs.DecorationMeaning.{decoration_of}
 use Rattle.decorations.specs.declared.types.Decoration.{Decoration}
 use Rattle.decorations.proofs.AgreeLaws.{apart, sound_ends}
 use Rattle.operation_steps.specs.Sorted.{AreIntervals, Sorted, sorted_nai, sorted_intervals, DecoratedBy}
-use Rattle.operation_steps.specs.declared.sound.Operands.{Operands}
 
 module _ (F : Format) {x : DecPair} (j : JudgedDecorated F x sound) (n : NaNs F x.pair → ⊥) where
   -- A sound operand is NaI or an interval.
@@ -36,26 +36,26 @@ lower_not_ill d e m n = go (leb (decoration_byte d) (decoration_byte e))
     go true = m
     go false = n
 
-module _ {IsNaI Bares : Type 0} {lowest : meant.Decoration} {t : Operands} (s : Sorted IsNaI Bares lowest t) where
-  pub nai_lem : t ≡ Operands.Nai → IsNaI
+module _ {IsNaI Bares : Type 0} {lowest : meant.Decoration} {t : Option Decoration} (s : Sorted IsNaI Bares lowest t) where
+  pub nai_lem : t ≡ None → IsNaI
   nai_lem e = go (subst (Sorted IsNaI Bares lowest) e s)
     where
-      go : Sorted IsNaI Bares lowest Operands.Nai → IsNaI
+      go : Sorted IsNaI Bares lowest None → IsNaI
       go (sorted_nai n) = n
 
-  pub intervals : {d : Decoration} → t ≡ Operands.Intervals d → AreIntervals IsNaI Bares lowest d
+  pub intervals : {d : Decoration} → t ≡ Some d → AreIntervals IsNaI Bares lowest d
   intervals e = go (subst (Sorted IsNaI Bares lowest) e s)
     where
-      go : {d : Decoration} → Sorted IsNaI Bares lowest (Operands.Intervals d) → AreIntervals IsNaI Bares lowest d
+      go : {d : Decoration} → Sorted IsNaI Bares lowest (Some d) → AreIntervals IsNaI Bares lowest d
       go (sorted_intervals i) = i
 
-  pub right_nai_lem : (F : Format) {R : Fraction → Type 0} {Allows : Set → meant.Decoration → Type 0} → t ≡ Operands.Nai
+  pub right_nai_lem : (F : Format) {R : Fraction → Type 0} {Allows : Set → meant.Decoration → Type 0} → t ≡ None
       → RightDecorated F IsNaI R Allows lowest (nai F)
   right_nai_lem F e = right_nai (nai_lem e)
 
   -- The bare answer with its decoration is the right answer for intervals.
   pub right_interval_lem : {F : Format} {R : Fraction → Type 0} {Allows : Set → meant.Decoration → Type 0} {d : Decoration} {z : Pair} {allowed : meant.Decoration} {r : DecPair}
-      → t ≡ Operands.Intervals d → HullOf F R z → Allows (set_of F z) allowed → DecoratedBy F z allowed (decoration_of d) r
+      → t ≡ Some d → HullOf F R z → Allows (set_of F z) allowed → DecoratedBy F z allowed (decoration_of d) r
       → RightDecorated F IsNaI R Allows lowest r
   right_interval_lem {F} {R} {Allows} {d} {z} {allowed} {r} e h a by =
       right_interval (intervals e).not_nai (subst⁻¹ (HullOf F R) by.same h)

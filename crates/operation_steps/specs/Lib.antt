@@ -1,3 +1,2 @@
 -- What the contracts of shared steps cite.
-pub mod InTurn
 pub mod Sorted

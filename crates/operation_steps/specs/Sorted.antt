@@ -1,5 +1,5 @@
 -- Sound decorated operands.
-use Rattle.std.specs.Prelude.{◌≡◌}
+use Rattle.std.specs.Prelude.{◌≡◌, Option, Some, None}
 use Rattle.patterns.specs.Format.{Format}
 use Rattle.meaning.specs.Pairs.{Pair, set_of}
 use Rattle.meaning.specs.Decorations as meant
@@ -7,7 +7,6 @@ use Rattle.meaning.specs.Decorations.{Ill, lower_of, settled}
 use Rattle.meaning.specs.Statement.{DecPair}
 use Rattle.decorations.specs.DecorationMeaning.{decoration_of}
 use Rattle.decorations.specs.declared.types.Decoration.{Decoration}
-use Rattle.operation_steps.specs.declared.sound.Operands.{Operands}
 
 -- `IsNaI`: an operand is NaI. `Bares`: every operand is an interval. `lowest`: the lower of their decorations.
 pub record AreIntervals (IsNaI Bares : Type 0) (lowest : meant.Decoration) (d : Decoration) : Type 0 where
@@ -16,9 +15,10 @@ pub record AreIntervals (IsNaI Bares : Type 0) (lowest : meant.Decoration) (d : 
   pub not_ill : lowest ≡ Ill → ⊥
   pub is : decoration_of d ≡ lowest
 
-pub data Sorted (IsNaI Bares : Type 0) (lowest : meant.Decoration) : Operands → Type 0 where
-  sorted_nai : IsNaI → Sorted IsNaI Bares lowest Operands.Nai
-  sorted_intervals : {d : Decoration} → AreIntervals IsNaI Bares lowest d → Sorted IsNaI Bares lowest (Operands.Intervals d)
+-- No decoration if an operand is NaI, and else the lower of theirs.
+pub data Sorted (IsNaI Bares : Type 0) (lowest : meant.Decoration) : Option Decoration → Type 0 where
+  sorted_nai : IsNaI → Sorted IsNaI Bares lowest None
+  sorted_intervals : {d : Decoration} → AreIntervals IsNaI Bares lowest d → Sorted IsNaI Bares lowest (Some d)
 
 -- The pair z with the lower of what the operation allows and the operands' own decoration, "through `set_dec`".
 pub record DecoratedBy (F : Format) (z : Pair) (allowed operands : meant.Decoration) (r : DecPair) : Type 0 where

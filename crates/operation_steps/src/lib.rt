@@ -7,5 +7,5 @@ mod judging;
 mod sound;
 
 pub use answer::decorate;
-pub use judging::{judge_two, judge_two_dec};
-pub use sound::{Operands, one_operand, two_operands};
+pub use judging::judge_two;
+pub use sound::{one_operand, two_operands};

@@ -1,4 +1,4 @@
-// What operations ask of sound operands.
+// What operations ask of sound operands: the lower of their decorations, or none if one of them is NaI.
 ghost use Rattle.std.specs.Prelude.{◌⊎◌};
 ghost use Rattle.patterns.specs.Format.{binary64};
 ghost use Rattle.meaning.specs.Pairs.{Bare, NaNs};
@@ -13,35 +13,22 @@ use dec_interval::DecInterval;
 use decorations::{Decoration, lower_decoration};
 use end_pairs::are_nans;
 
-// Sound decorated operands: NaI if one of them is, or else intervals, with the lower of their decorations.
-#[derive(Clone, Copy)]
-pub enum Operands {
-    Nai,
-    Intervals(Decoration),
-}
-
-pub fn one_operand(x: DecInterval) -> Operands
+pub fn one_operand(x: DecInterval) -> Option<Decoration>
     requires { JudgedDecorated binary64 (dec_pair_of x) sound }
     ensures { Sorted (NaNs binary64 (pair_of x.x)) (Bare binary64 (pair_of x.x)) (decoration_of x.d) result }
 {
-    let d = x.d;
     if are_nans(x.x.ends) {
-        return Operands::Nai;
+        return None;
     }
-    Operands::Intervals(d)
+    Some(x.d)
 }
 
-pub fn two_operands(x: DecInterval, y: DecInterval) -> Operands
+pub fn two_operands(x: DecInterval, y: DecInterval) -> Option<Decoration>
     requires { JudgedDecorated binary64 (dec_pair_of x) sound × JudgedDecorated binary64 (dec_pair_of y) sound }
     ensures { Sorted (NaNs binary64 (pair_of x.x) ⊎ NaNs binary64 (pair_of y.x)) (Bare binary64 (pair_of x.x) × Bare binary64 (pair_of y.x)) (lower_of (decoration_of x.d) (decoration_of y.d)) result }
 {
-    if are_nans(x.x.ends) {
-        return Operands::Nai;
+    if are_nans(x.x.ends) || are_nans(y.x.ends) {
+        return None;
     }
-    if are_nans(y.x.ends) {
-        return Operands::Nai;
-    }
-    let d = x.d;
-    let e = y.d;
-    Operands::Intervals(lower_decoration(d, e))
+    Some(lower_decoration(x.d, y.d))
 }

@@ -15,7 +15,7 @@ use interval::Interval;
 use operation_names::{Binary, Unary};
 use set_op::{convex_hull_of, intersection_of};
 
-// The ends of the results, by the ends of the operands.
+// The ends of the results, by the ends of the operands. Each name has its function in an arm: a table of pointers would lose their clauses.
 fn image_ends(f: Unary, x: EndPair) -> EndPair
     requires { Bare binary64 (two.pair_of x) }
     ensures { HullOf binary64 (Result₁ (unary_of f) (set_of binary64 (two.pair_of x))) (two.pair_of result) }

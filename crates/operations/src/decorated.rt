@@ -17,7 +17,7 @@ use decorations::Decoration;
 use end_pairs::EndPair;
 use integer::allowed;
 use operation_names::{Binary, Unary};
-use operation_steps::{Operands, decorate, one_operand, two_operands};
+use operation_steps::{decorate, one_operand, two_operands};
 
 // The highest decoration that the result `z` on the operand `x` may have.
 fn allowed_one(f: Unary, x: EndPair, z: EndPair) -> Decoration
@@ -25,8 +25,7 @@ fn allowed_one(f: Unary, x: EndPair, z: EndPair) -> Decoration
     ensures { Allows₁ (unary_of f) (set_of binary64 (pair_of x)) (set_of binary64 (pair_of z)) (decoration_of result) }
 {
     match f {
-        Unary::Neg => Decoration::Com,
-        Unary::Abs => Decoration::Com,
+        Unary::Neg | Unary::Abs => Decoration::Com,
         Unary::Whole(g) => allowed(g, x, z),
     }
 }
@@ -37,14 +36,9 @@ fn allowed_two(o: Binary, y: EndPair) -> Decoration
     ensures { (X : Set) → Allows₂ (binary_of o) X (set_of binary64 (pair_of y)) (decoration_of result) }
 {
     match o {
-        Binary::Add => Decoration::Com,
-        Binary::Sub => Decoration::Com,
-        Binary::Mul => Decoration::Com,
+        Binary::Add | Binary::Sub | Binary::Mul | Binary::Max | Binary::Min => Decoration::Com,
         Binary::Div => divided_decoration(y),
-        Binary::ConvexHull => Decoration::Trv,
-        Binary::Intersection => Decoration::Trv,
-        Binary::Max => Decoration::Com,
-        Binary::Min => Decoration::Com,
+        Binary::ConvexHull | Binary::Intersection => Decoration::Trv,
     }
 }
 
@@ -53,12 +47,11 @@ pub fn image_dec(f: Unary, x: DecInterval) -> DecInterval
     ensures { RightDec₁ binary64 (unary_of f) (dec_pair_of x) (dec_pair_of result) }
 {
     match one_operand(x) {
-        Operands::Nai => DecInterval::NAI,
-        Operands::Intervals(d) => {
-            let part = x.x;
-            let z = image(f, part);
-            decorate(z, allowed_one(f, part.ends, z.ends), d)
+        Some(d) => {
+            let z = image(f, x.x);
+            decorate(z, allowed_one(f, x.x.ends, z.ends), d)
         }
+        None => DecInterval::NAI,
     }
 }
 
@@ -67,7 +60,7 @@ pub fn combine_dec(o: Binary, x: DecInterval, y: DecInterval) -> DecInterval
     ensures { RightDec₂ binary64 (binary_of o) (dec_pair_of x) (dec_pair_of y) (dec_pair_of result) }
 {
     match two_operands(x, y) {
-        Operands::Nai => DecInterval::NAI,
-        Operands::Intervals(d) => decorate(combine(o, x.x, y.x), allowed_two(o, y.x.ends), d),
+        Some(d) => decorate(combine(o, x.x, y.x), allowed_two(o, y.x.ends), d),
+        None => DecInterval::NAI,
     }
 }

@@ -1,12 +1,9 @@
 -- What the code's states and answers are in the terms of document 01: "states numbered 0 to 15 in the order declared ..
 -- NaI gives 16."
-use Rattle.std.specs.Prelude.{ℕ}
+use Rattle.std.specs.Prelude.{◌≡◌, ℕ, Option, Some, None}
 use Rattle.meaning.specs.Overlap as meant
 use Rattle.meaning.specs.Overlap.{State, state_number}
-use Rattle.meaning.specs.Statement.{Outcome, refused, given}
 use Rattle.overlap.specs.declared.state.Overlap.{Overlap}
-use Rattle.overlap.specs.declared.answers.DecState.{DecState}
-use Rattle.overlap.specs.declared.answers.OverlapAnswer.{OverlapAnswer}
 
 abbrev pub state_of : Overlap → State
 state_of Overlap.BothEmpty = meant.both_empty
@@ -26,11 +23,13 @@ state_of Overlap.OverlappedBy = meant.overlapped_by
 state_of Overlap.MetBy = meant.met_by
 state_of Overlap.After = meant.after
 
-abbrev pub dec_number_of : DecState → ℕ
-dec_number_of (DecState.State s) = state_number (state_of s)
-dec_number_of DecState.Nai = 16
+abbrev pub number_of : Overlap → ℕ
+number_of s = state_number (state_of s)
 
-abbrev pub overlap_outcome : OverlapAnswer → Outcome ℕ
-overlap_outcome (OverlapAnswer.Given s) = given (state_number (state_of s))
-overlap_outcome OverlapAnswer.Nai = given 16
-overlap_outcome (OverlapAnswer.Refused r) = refused r
+abbrev pub IsNumberOf : Overlap → ℕ → Type 0
+IsNumberOf s n = n ≡ number_of s
+
+-- NaI has no state.
+abbrev pub dec_number_of : Option Overlap → ℕ
+dec_number_of (Some s) = number_of s
+dec_number_of None = 16

@@ -4,6 +4,7 @@ ghost use Rattle.meaning.specs.Overlap.{Conditions};
 ghost use Rattle.overlap.specs.OverlapMeaning.{state_of};
 
 use crate::state::Overlap;
+use std::cmp::Ordering;
 
 // The state by how the ends of [a, b] and [c, d] compare:
 //
@@ -26,41 +27,23 @@ use crate::state::Overlap;
 pub fn compare(a: u64, b: u64, c: u64, d: u64) -> Overlap
     ensures { Conditions ◌<◌ ◌≡◌ (state_of result) a b c d }
 {
-    if b < d {
-        if a < c {
-            if b < c {
-                return Overlap::Before;
-            }
-            if b == c {
-                return Overlap::Meets;
-            }
-            return Overlap::Overlaps;
-        }
-        if a == c {
-            return Overlap::Starts;
-        }
-        return Overlap::ContainedBy;
+    match (b.cmp(&d), a.cmp(&c)) {
+        (Ordering::Less, Ordering::Less) => match b.cmp(&c) {
+            Ordering::Less => Overlap::Before,
+            Ordering::Equal => Overlap::Meets,
+            Ordering::Greater => Overlap::Overlaps,
+        },
+        (Ordering::Less, Ordering::Equal) => Overlap::Starts,
+        (Ordering::Less, Ordering::Greater) => Overlap::ContainedBy,
+        (Ordering::Equal, Ordering::Less) => Overlap::FinishedBy,
+        (Ordering::Equal, Ordering::Equal) => Overlap::Equals,
+        (Ordering::Equal, Ordering::Greater) => Overlap::Finishes,
+        (Ordering::Greater, Ordering::Less) => Overlap::Contains,
+        (Ordering::Greater, Ordering::Equal) => Overlap::StartedBy,
+        (Ordering::Greater, Ordering::Greater) => match a.cmp(&d) {
+            Ordering::Less => Overlap::OverlappedBy,
+            Ordering::Equal => Overlap::MetBy,
+            Ordering::Greater => Overlap::After,
+        },
     }
-    if b == d {
-        if c < a {
-            return Overlap::Finishes;
-        }
-        if a == c {
-            return Overlap::Equals;
-        }
-        return Overlap::FinishedBy;
-    }
-    if a < c {
-        return Overlap::Contains;
-    }
-    if a == c {
-        return Overlap::StartedBy;
-    }
-    if a < d {
-        return Overlap::OverlappedBy;
-    }
-    if a == d {
-        return Overlap::MetBy;
-    }
-    Overlap::After
 }

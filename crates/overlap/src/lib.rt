@@ -3,41 +3,36 @@
 
 ghost use Rattle.patterns.specs.Format.{binary64};
 ghost use Rattle.meaning.specs.Overlap.{BareOverlap, DecOverlap};
+ghost use Rattle.refusals.specs.RefusalMeaning.{outcome_of};
 ghost use Rattle.interval.specs.IntervalMeaning.{pair_of};
 ghost use Rattle.dec_interval.specs.DecIntervalMeaning.{dec_pair_of};
-ghost use Rattle.overlap.specs.OverlapMeaning.{overlap_outcome};
+ghost use Rattle.overlap.specs.OverlapMeaning.{number_of, dec_number_of};
 
-mod answers;
 mod ends;
+mod numbers;
 mod state;
 mod valid;
 
-pub use answers::{DecState, OverlapAnswer, dec_state_number, state_number};
 use dec_interval::DecInterval;
-use interval::{Interval, Verdict};
-use operation_steps::{judge_two, judge_two_dec};
+use interval::Interval;
+pub use numbers::dec_state_number;
+use operation_steps::judge_two;
+use refusals::Refusal;
 pub use state::Overlap;
 pub use valid::{overlap_of, overlap_of_dec};
 
 // The overlapping state of `x` and `y`. See `Overlap` for the possible states.
-pub fn overlap(x: Interval, y: Interval) -> OverlapAnswer
-    ensures { BareOverlap binary64 (pair_of x) (pair_of y) (overlap_outcome result) }
+pub fn overlap(x: Interval, y: Interval) -> Result<Overlap, Refusal>
+    ensures { BareOverlap binary64 (pair_of x) (pair_of y) (outcome_of number_of result) }
 {
-    match judge_two(x, y) {
-        Verdict::Sound => OverlapAnswer::Given(overlap_of(x.ends, y.ends)),
-        Verdict::Refused(refusal) => OverlapAnswer::Refused(refusal),
-    }
+    judge_two(x, y)?;
+    Ok(overlap_of(x.ends, y.ends))
 }
 
-// The decorated version of `overlap`. NaI has no state.
-pub fn overlap_dec(x: DecInterval, y: DecInterval) -> OverlapAnswer
-    ensures { DecOverlap binary64 (dec_pair_of x) (dec_pair_of y) (overlap_outcome result) }
+// The decorated version of `overlap`. NaI has no state, and two bare intervals always have one: so each form has a function of its own.
+pub fn overlap_dec(x: DecInterval, y: DecInterval) -> Result<Option<Overlap>, Refusal>
+    ensures { DecOverlap binary64 (dec_pair_of x) (dec_pair_of y) (outcome_of dec_number_of result) }
 {
-    match judge_two_dec(x, y) {
-        Verdict::Sound => match overlap_of_dec(x, y) {
-            DecState::State(s) => OverlapAnswer::Given(s),
-            DecState::Nai => OverlapAnswer::Nai,
-        },
-        Verdict::Refused(refusal) => OverlapAnswer::Refused(refusal),
-    }
+    judge_two(x, y)?;
+    Ok(overlap_of_dec(x, y))
 }

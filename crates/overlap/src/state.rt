@@ -26,7 +26,7 @@
 //      └─           :       :  a   b
 //                   •———————•
 //                   c       d
-#[derive(Clone, Copy)]
+#[derive(Clone, Copy, PartialEq, Eq)]
 pub enum Overlap {
     // Both `x` and `y` are empty.
     BothEmpty,

@@ -4,7 +4,7 @@ use mathlib.Core.Path.{◌≡◌, sym, ◌∙◌, ap, ap₂, subst, subst₂}
 use mathlib.Core.Logic.{inl, inr, ⊎_elim}
 use Prim.Native.Nat.{ℕ, min, ◌+◌, ◌*◌, ◌-◌, ◌^◌, ◌<◌, ◌≤◌}
 use native.Mathlib.Omega.{arith}
-use native.Mathlib.Nat.{le_antisymm, le_of_eq, le_trans, lt_irrefl, lt_of_le_of_lt, lt_of_lt_of_le, min-le_left, min-le_right, mul-le-mul_right, mul-lt-mul_of_pos_right, sub-zero}
+use native.Mathlib.Nat.{le_antisymm, le_of_eq, le_trans, lt_irrefl, lt_of_le_of_lt, lt_of_lt_of_le, min-le_left, min-le_right, mul-le-mul_right, mul-lt-mul_of_pos_right}
 use lib.Arith.{lt_of_le-ne}
 use Rattle.truth.specs.Answers.{Answers}
 use Rattle.truth.proofs.AnswerLaws.{answers_iff, answers_and, answers_itself}
@@ -91,25 +91,22 @@ module _ {frac codes q k : ℕ} (fine : FineEnough frac q k) (short : q < 2 ^ (f
     unfolding infinity
     infinity_in = ap₂ (λ (s h : ℕ). s * 2 ^ h) (sym codess) (sym fracs)
 
-    whole_in : codes * 2 ^ frac - 0 ≡ infinity F
-    whole_in = sub-zero (codes * 2 ^ frac) ∙ infinity_in
-
     pattern_in : (m : ℕ) → k * 2 ^ frac + m ≡ k * 2 ^ F.frac + m
     pattern_in m = ap (λ (h : ℕ). k * 2 ^ h + m) (sym fracs)
 
-  pub packs_exact : {x : Bool} → x ≡ true → {r : ℕ} → r ≡ min (k * 2 ^ frac + q) (codes * 2 ^ frac - 0) → PacksUp frac codes q k x r
-  packs_exact exact lands F fracs codess n d some b =
-      subst (RoundsUp F n d) (sym (lands ∙ ap₂ min (pattern_in F fracs codess q) (whole_in F fracs codess)))
+  pub packs_exact : {x : Bool} → x ≡ true → {r most : ℕ} → most ≡ codes * 2 ^ frac → r ≡ min (k * 2 ^ frac + q) most → PacksUp frac codes q k x r
+  packs_exact exact most lands F fracs codess n d some b =
+      subst (RoundsUp F n d) (sym (lands ∙ ap₂ min (pattern_in F fracs codess q) (most ∙ infinity_in F fracs codess)))
       (exact_up F some (fine_in F fracs codess) (short_in F fracs codess) b exact)
 
-  pub packs_inexact : {x : Bool} → x ≡ false → {r : ℕ} → r ≡ min (k * 2 ^ frac + (q + 1)) (codes * 2 ^ frac - 0) → PacksUp frac codes q k x r
-  packs_inexact inexact lands F fracs codess n d some b =
-      subst (RoundsUp F n d) (sym (lands ∙ ap₂ min (pattern_in F fracs codess (q + 1)) (whole_in F fracs codess)))
+  pub packs_inexact : {x : Bool} → x ≡ false → {r most : ℕ} → most ≡ codes * 2 ^ frac → r ≡ min (k * 2 ^ frac + (q + 1)) most → PacksUp frac codes q k x r
+  packs_inexact inexact most lands F fracs codess n d some b =
+      subst (RoundsUp F n d) (sym (lands ∙ ap₂ min (pattern_in F fracs codess (q + 1)) (most ∙ infinity_in F fracs codess)))
       (inexact_up F some (fine_in F fracs codess) (short_in F fracs codess) b inexact)
 
-  pub packs_down : {x : Bool} → {r : ℕ} → r ≡ min (k * 2 ^ frac + q) (codes * 2 ^ frac - 1) → PacksDown frac codes q k x r
-  packs_down lands F fracs codess n d some b =
-      subst (RoundsDown F n d) (sym (lands ∙ ap₂ min (pattern_in F fracs codess q) (ap (λ (i : ℕ). i - 1) (infinity_in F fracs codess))))
+  pub packs_down : {x : Bool} → {r most : ℕ} → most ≡ codes * 2 ^ frac → r ≡ min (k * 2 ^ frac + q) (most - 1) → PacksDown frac codes q k x r
+  packs_down most lands F fracs codess n d some b =
+      subst (RoundsDown F n d) (sym (lands ∙ ap₂ min (pattern_in F fracs codess q) (ap (λ (i : ℕ). i - 1) (most ∙ infinity_in F fracs codess))))
       (cut_down F some (fine_in F fracs codess) (short_in F fracs codess) b)
 
   pub packs_representable : (x : Bool) {t : Bool} → Answers (k * 2 ^ frac + q < codes * 2 ^ frac) t → TellsRepresentable frac codes q k x (x && t)

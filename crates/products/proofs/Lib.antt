@@ -1,3 +1,2 @@
--- Laws of products by limbs, and of the exponents of products.
-pub mod Limbs
+-- Laws of the exponents of products.
 pub mod ProductScale

@@ -1,26 +1,22 @@
 -- The exact product of two values, from that of their significands.
 use mathlib.Core.Bool.{Bool}
 use mathlib.Core.Path.{◌≡◌, sym, ap, ap₂, ◌∙◌}
-use Prim.Native.Nat.{ℕ, ◌+◌, ◌*◌, ◌%◌, ◌^◌, ◌<◌, ◌≤◌}
-use native.Mathlib.Nat.{mul-le-mul}
+use Prim.Native.Nat.{ℕ, ◌+◌, ◌*◌, ◌^◌, ◌<◌}
 use native.Mathlib.Omega.{arith}
 use lib.Dec.{eqb}
 use lib.Pow.{pow-add, pow_pos}
 use Rattle.packing.specs.Bracket.{Brackets}
 use Rattle.significands.proofs.Proportion.{divided, proportional}
 
-pub upper_large : (a b h l : ℕ) → 2 ^ 60 ≤ a → 2 ^ 60 ≤ b → l < 2 ^ 64 → h * 2 ^ 64 + l ≡ a * b → 2 ^ 52 ≤ h
-upper_large a b h l first second small whole = omega (arith, mul-le-mul {n₁ = 2 ^ 60} {m₁ = 2 ^ 60} {n₂ = a} {m₂ = b} first second)
-
 -- a product of powers of two, by their exponents
 powers : (s t d : ℕ) → 2 ^ s * 2 ^ t * 2 ^ d ≡ 2 ^ (s + t + d)
 powers s t d = ap (λ (p : ℕ). p * 2 ^ d) (sym (pow-add 2 s t)) ∙ sym (pow-add 2 (s + t) d)
 
--- the product of two significands that are shifted by s bits, cut at its lower k bits, with the exponents' bias l
-pub product_cut : (s d l k e m n h r : ℕ) → s + s + d ≡ l + k → h * 2 ^ k + r ≡ m * 2 ^ s * (n * 2 ^ s) → r < 2 ^ k
+-- the product of two significands, cut at its lower k bits, with the exponents' bias l
+pub product_cut : (d l k e m n h r : ℕ) → d ≡ l + k → h * 2 ^ k + r ≡ m * n → r < 2 ^ k
     → Brackets (m * n * 2 ^ e * 2 ^ l) (2 ^ d) h e (eqb r 0)
-product_cut s d l k e m n h r same whole small =
-    let even : 2 ^ s * 2 ^ s * 2 ^ d ≡ 2 ^ l * 2 ^ k = powers s s d ∙ ap (λ (t : ℕ). 2 ^ t) same ∙ pow-add 2 l k in
+product_cut d l k e m n h r same whole small =
+    let even : 2 ^ d ≡ 2 ^ l * 2 ^ k = ap (λ (t : ℕ). 2 ^ t) same ∙ pow-add 2 l k in
     proportional (pow_pos k) (pow_pos d) (omega (arith, ap (λ (t : ℕ). m * n * 2 ^ e * t) even)) (divided h r whole small)
 
 -- v and w are worth their significands at exponents that count from 2 ^ -f
@@ -31,7 +27,3 @@ product_worth f d k e e' m n v w {q} {h} same first second =
     omega (arith, ap (λ (t : ℕ). m * n * t) (pow-add 2 e e'), ap₂ (λ (s t : ℕ). s * t) first second) in
     let even : 2 ^ f * 2 ^ f * 2 ^ d ≡ 2 ^ k = powers f f d ∙ ap (λ (t : ℕ). 2 ^ t) same in
     proportional (pow_pos k) (pow_pos d) (omega (arith, ap (λ (t : ℕ). t * (2 ^ h * 2 ^ d)) both, ap (λ (t : ℕ). v * w * 2 ^ h * t) even))
-
--- a significand of 53 bits has room for ten more
-pub shifted : (m : ℕ) → m < 2 ^ 53 → m * 2 ^ 10 % 2 ^ 64 ≡ m * 2 ^ 10
-shifted m short = omega arith

@@ -8,14 +8,12 @@ ghost use Rattle.patterns.specs.Rounding.{Up, UpTold, Reached, product_of};
 ghost use Rattle.patterns.specs.Value.{Finite};
 
 use crate::product_bracket::product;
-use packing::pack::is_representable;
-use significands::double::{CODES, FRACTION, SIGN};
+use significands::double::SIGN;
 use significands::normal::normalise;
 use significands::rounded::Rounded;
-use significands::sign::{differ, round_up};
+use significands::sign::differ;
 
 mod product_bracket;
-mod wide;
 
 // The least double that is not below a * b, or infinity.
 pub fn product_up(a: u64, b: u64) -> u64
@@ -30,7 +28,7 @@ pub fn product_up(a: u64, b: u64) -> u64
     if y == 0 {
         return 0;
     }
-    round_up(differ(a, b), product(normalise(x), normalise(y)))
+    product(normalise(x), normalise(y)).round_up(differ(a, b))
 }
 
 // Whether the product of two finite doubles is a double, so that nothing has to be rounded.
@@ -46,7 +44,7 @@ pub fn is_exact_product(a: u64, b: u64) -> bool
     if y == 0 {
         return true;
     }
-    is_representable(FRACTION, CODES, product(normalise(x), normalise(y)))
+    product(normalise(x), normalise(y)).is_representable()
 }
 
 // The product rounded upward, and whether nothing was rounded.

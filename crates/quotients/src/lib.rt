@@ -9,11 +9,10 @@ ghost use Rattle.patterns.specs.Rounding.{Up, UpTold, Reached, quotient_of};
 ghost use Rattle.patterns.specs.Value.{Finite, value, magnitude};
 
 use crate::quotient_bracket::quotient;
-use packing::pack::is_representable;
-use significands::double::{CODES, FRACTION, SIGN};
+use significands::double::SIGN;
 use significands::normal::normalise;
 use significands::rounded::Rounded;
-use significands::sign::{differ, round_up};
+use significands::sign::differ;
 
 mod long_division;
 mod quotient_bracket;
@@ -27,7 +26,7 @@ pub fn quotient_up(a: u64, b: u64) -> u64
     if x == 0 {
         return 0;
     }
-    round_up(differ(a, b), quotient(normalise(x), normalise(b % SIGN)))
+    quotient(normalise(x), normalise(b % SIGN)).round_up(differ(a, b))
 }
 
 // Whether the quotient of two finite doubles is a double, so that nothing has to be rounded.
@@ -39,7 +38,7 @@ pub fn is_exact_quotient(a: u64, b: u64) -> bool
     if x == 0 {
         return true;
     }
-    is_representable(FRACTION, CODES, quotient(normalise(x), normalise(b % SIGN)))
+    quotient(normalise(x), normalise(b % SIGN)).is_representable()
 }
 
 // The quotient rounded upward, and whether nothing was rounded.

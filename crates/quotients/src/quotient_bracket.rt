@@ -1,22 +1,18 @@
 // Brackets of quotients of significands of full length.
 ghost use Rattle.std.specs.Prelude.{◌≡◌, ◌+◌, ◌-◌, ◌*◌, ◌^◌};
 ghost use Rattle.packing.specs.Bracket.{Brackets};
-ghost use Rattle.packing.specs.Packing.{Packable};
-ghost use Rattle.significands.specs.Normal.{Full};
 
 use crate::long_division::divide;
-use packing::bracket::Approx;
-use packing::magnitude::Unpacked;
+use significands::bracket::DoubleBracket;
 use significands::exponent::difference;
+use significands::normal::Normal;
 use significands::units::in_units;
 
 // How far the exponent of the cut quotient lies above the difference of the exponents: 1074 for the unit, less the sixty bits.
 const ABOVE: u32 = 1014;
 
 // The exact quotient, cut after sixty bits. The remainder tells whether anything was cut off.
-pub fn quotient(x: Unpacked, y: Unpacked) -> Approx
-    requires { Full x.significand x.exponent × Full y.significand y.exponent }
-    ensures packs { Packable 52 2047 result.significand result.exponent }
+pub fn quotient(x: Normal, y: Normal) -> DoubleBracket
     ensures exponent { result.exponent ≡ x.exponent + 1014 - y.exponent }
     ensures brackets { Brackets (x.significand * 2 ^ (x.exponent + 1074)) (y.significand * 2 ^ y.exponent) result.significand result.exponent result.exact }
 {

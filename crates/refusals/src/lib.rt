@@ -1,75 +1,83 @@
-// Why a call is refused: one struct and the numbers of document 01, for calls on values, on bytes and on columns. It stands on nothing,
-// and definitions and code share it.
+// Why a call is refused: what is wrong with an operand, and what is wrong with the call itself, with the numbers of document 01. It stands on
+// the definition of a refusal (`meaning`), and all calls share it.
 #![tactic(auto)]
 
-// The refusal of a call: its number, the place of the operand that is wrong, and an index. The place and the index are 0
-// where there is none.
-#[derive(Clone, Copy)]
-pub struct Refusal {
-    pub number: u32,
-    pub place: u32,
-    pub index: u32,
+ghost use Rattle.std.specs.Prelude.{◌≡◌};
+ghost use Rattle.refusals.specs.RefusalMeaning.{refusal_of};
+ghost use Rattle.refusals.specs.declared.Place.{Place};
+ghost use Rattle.refusals.specs.declared.Refusal.{Refusal};
+
+// What is wrong with an operand, in the order in which it is tried.
+#[derive(Clone, Copy, PartialEq, Eq)]
+pub enum Fault {
+    // The byte of a decoration is none that a decoration has.
+    BadByte,
+    // The ends are those of no interval.
+    BadEnds,
+    // The decoration does not go with the ends.
+    BadDecoration,
 }
 
-// The place of the first operand, or of the only one.
-pub const FIRST: u32 = 1;
+// Which operand it is.
+#[derive(Clone, Copy, PartialEq, Eq)]
+pub enum Place {
+    // The first operand, or the only one.
+    First,
+    Second,
+}
 
-// The place of the second operand.
-pub const SECOND: u32 = 2;
+// Why a call is refused.
+#[derive(Clone, Copy, PartialEq, Eq)]
+pub enum Refusal {
+    // The input's length is not the one fixed for the call.
+    WrongLength,
+    // The output's length is not that of the answer.
+    WrongRoom,
+    // The operation number is that of no operation.
+    UnknownOperation,
+    // An operand is wrong.
+    Operand(Place, Fault),
+}
 
-// Where no operand is wrong.
-const NO_PLACE: u32 = 0;
+// `?` refuses the first operand, or the only one.
+impl From<Fault> for Refusal {
+    ghost from_gives = { λ fault r. r ≡ Refusal.Operand Place.First fault };
 
-// Where nothing has an index.
-const NO_INDEX: u32 = 0;
+    fn from(fault: Fault) -> Refusal {
+        Refusal::Operand(Place::First, fault)
+    }
+}
 
 impl Refusal {
-    // What a call returns that is answered.
-    pub const NONE: Refusal = Refusal {
-        number: 0,
-        place: NO_PLACE,
-        index: NO_INDEX,
-    };
+    // The refusal of the second operand.
+    pub fn second(fault: Fault) -> Refusal
+        ensures { result ≡ Refusal.Operand Place.Second fault }
+    {
+        Refusal::Operand(Place::Second, fault)
+    }
 
-    // The input's length is not the one fixed for the call.
-    pub const WRONG_LENGTH: Refusal = Refusal {
-        number: 1,
-        place: NO_PLACE,
-        index: NO_INDEX,
-    };
+    // Document 01's number.
+    pub fn number(self) -> u8
+        ensures { result ≡ (refusal_of self).number }
+    {
+        match self {
+            Refusal::WrongLength => 1,
+            Refusal::WrongRoom => 2,
+            Refusal::UnknownOperation => 3,
+            Refusal::Operand(_, Fault::BadByte) => 4,
+            Refusal::Operand(_, Fault::BadEnds) => 5,
+            Refusal::Operand(_, Fault::BadDecoration) => 6,
+        }
+    }
 
-    // The output's length is not that of the answer.
-    pub const WRONG_ROOM: Refusal = Refusal {
-        number: 2,
-        place: NO_PLACE,
-        index: NO_INDEX,
-    };
-
-    // The operation number is that of no operation.
-    pub const UNKNOWN_OPERATION: Refusal = Refusal {
-        number: 3,
-        place: NO_PLACE,
-        index: NO_INDEX,
-    };
-
-    // The byte of a decoration is none that a decoration has.
-    pub const BAD_BYTE: Refusal = Refusal {
-        number: 4,
-        place: FIRST,
-        index: NO_INDEX,
-    };
-
-    // The ends are those of no interval.
-    pub const BAD_ENDS: Refusal = Refusal {
-        number: 5,
-        place: FIRST,
-        index: NO_INDEX,
-    };
-
-    // The decoration does not go with the ends.
-    pub const BAD_DECORATION: Refusal = Refusal {
-        number: 6,
-        place: FIRST,
-        index: NO_INDEX,
-    };
+    // The place of the operand that is wrong, and 0 where none is.
+    pub fn place(self) -> u8
+        ensures { result ≡ (refusal_of self).place }
+    {
+        match self {
+            Refusal::WrongLength | Refusal::WrongRoom | Refusal::UnknownOperation => 0,
+            Refusal::Operand(Place::First, _) => 1,
+            Refusal::Operand(Place::Second, _) => 2,
+        }
+    }
 }

@@ -1,7 +1,17 @@
 -- From operands that were read to the outcome of a call, whatever is read and whatever is right.
-use mathlib.Core.Path.{◌≡◌, ap, subst}
-use Rattle.refusals.specs.declared.Refusal.{Refusal}
+use mathlib.Core.Path.{◌≡◌, ap, subst, subst⁻¹}
+use mathlib.Core.List.{List, []}
+use Prim.Native.Nat.{ℕ}
+use Rattle.std.specs.Prelude.{Result, Ok, Err, IsErrAnd, MatchResult}
+use Rattle.meaning.specs.Refusals.{Refusal}
 use Rattle.meaning.specs.Statement.{Outcome, refused, given, Verdict, Answered₁, first₁, right₁, Answered₂, first₂, second₂, right₂}
+use Rattle.meaning.specs.Calls.{Called}
+use Rattle.meaning.proofs.CalledLaws.{refusing}
+use Rattle.refusals.specs.RefusalMeaning.{refusal_of, outcome_of, first_outcome, said}
+use Rattle.refusals.specs.declared.Fault.{Fault}
+use Rattle.refusals.specs.declared.Place.{Place}
+use Rattle.refusals.specs.declared.Refusal as code
+use Rattle.refusals.proofs.FoundLaws.{passed_on}
 use Rattle.request_laws.specs.Reads.{BothRead}
 
 -- What is said of the code's answer is said of the case that it was found to be.
@@ -41,3 +51,37 @@ module _ {A B : Type 0} {Judged : A → Verdict → Type 0} {Read : A → B → 
   pub wrong_second : {z : B} {r : Refusal} → Answered₁ Judged Read x (given z) → Answered₁ Judged Read y (refused r)
       → Answered₂ Judged (BothRead Read) x y (refused (record { number = r.number; place = 2; index = r.index }))
   wrong_second (right₁ j r) (first₁ k) = second₂ j k
+
+-- A refusal that was found of two operands is handed on by `?`.
+pub handed_on₂ : {A B C D E : Type 0} {Judged : A → Verdict → Type 0} {Read : A → A → C → Type 0} {Right : A → A → B → Type 0} (before : D → C) (after : E → B)
+    {x y : A} {v : Result D code.Refusal} {e : code.Refusal} (s : Result E code.Refusal) → Answered₂ Judged Read x y (outcome_of before v) → v ≡ Err e
+    → IsErrAnd s (λ r. r ≡ e) → Answered₂ Judged Right x y (outcome_of after s)
+handed_on₂ {A} {B} {C} {D} {E} {Judged} {Read} {Right} before after {x} {y} s a is h =
+    subst⁻¹ (λ (t : Result E code.Refusal). Answered₂ Judged Right x y (outcome_of after t)) (passed_on s h) (refused₂ (found₂ (outcome_of before) a is))
+
+-- A first operand that is wrong is refused, whatever the second is.
+pub read_wrong : {A B D E : Type 0} {Judged : D → Verdict → Type 0} {Read : D → B → Type 0} (meaning : A → B) (after : E → B × B) {x y : D} {r : Result A Fault}
+    {fault : Fault} (s : Result E code.Refusal) → Answered₁ Judged Read x (first_outcome meaning r) → r ≡ Err fault
+    → IsErrAnd s (λ e. e ≡ code.Refusal.Operand Place.First fault) → Answered₂ Judged (BothRead Read) x y (outcome_of after s)
+read_wrong {E = E} {Judged = Judged} {Read = Read} meaning after {x} {y} s h is e =
+    subst⁻¹ (λ (t : Result E code.Refusal). Answered₂ Judged (BothRead Read) x y (outcome_of after t)) (passed_on s e)
+    (wrong_first (found₁ (first_outcome meaning) h is))
+
+-- What the second operand is refused with, where it is.
+abbrev pub Second : {A : Type 0} → Result A Fault → Result A code.Refusal → Type 0
+Second r s = MatchResult r (λ x. s ≡ Ok x) (λ fault. IsErrAnd s (λ e. e ≡ code.Refusal.Operand Place.Second fault))
+
+-- The second operand is read once the first was.
+pub read_second : {A B D : Type 0} {Judged : D → Verdict → Type 0} {Read : D → B → Type 0} (meaning : A → B) {x y : D} {z : B} (r : Result A Fault)
+    (s : Result A code.Refusal) → Answered₁ Judged Read x (given z) → Answered₁ Judged Read y (first_outcome meaning r) → Second r s
+    → Answered₂ Judged (BothRead Read) x y (outcome_of (λ w. (z, meaning w)) s)
+read_second {A} {B} {D} {Judged} {Read} meaning {x} {y} {z} (Ok w) s h k e =
+    subst⁻¹ (λ (t : Result A code.Refusal). Answered₂ Judged (BothRead Read) x y (outcome_of (λ w. (z, meaning w)) t)) e (both h k)
+read_second {A} {B} {D} {Judged} {Read} meaning {x} {y} {z} (Err fault) s h k e =
+    subst⁻¹ (λ (t : Result A code.Refusal). Answered₂ Judged (BothRead Read) x y (outcome_of (λ w. (z, meaning w)) t)) (passed_on s e) (wrong_second h k)
+
+-- A call that says its refusal leaves the lent output as it was.
+pub refusing_said : {I : Type 0} {Outcomes : I → Outcome (List ℕ) → Type 0} {input : I} {before : List ℕ} {e : code.Refusal} (s : Result (Unit {0}) code.Refusal)
+    → s ≡ Err e → Outcomes input (refused (refusal_of e)) → Called [] Outcomes input before (said s) before
+refusing_said {Outcomes = Outcomes} {input = input} {before = before} s is right =
+    subst⁻¹ (λ (t : Result (Unit {0}) code.Refusal). Called [] Outcomes input before (said t) before) is (refusing right)

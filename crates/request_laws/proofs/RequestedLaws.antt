@@ -3,7 +3,7 @@ use mathlib.Core.Path.{◌≡◌}
 use mathlib.Core.List.{List, [], ◌∷◌}
 use Prim.Native.Nat.{ℕ}
 use lib.ListN.{get_or}
-use Rattle.refusals.specs.declared.Refusal.{Refusal}
+use Rattle.meaning.specs.Refusals.{Refusal}
 use Rattle.meaning.specs.Statement.{Outcome}
 use Rattle.meaning.specs.Requests.{Asked, operation_number, Requested, numbered}
 use Rattle.meaning.specs.Calls.{Test, passed, Called}

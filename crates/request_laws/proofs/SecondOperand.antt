@@ -4,7 +4,7 @@ use mathlib.Core.Path.{◌≡◌, sym, ◌∙◌, subst}
 use mathlib.Core.List.{List}
 use Prim.Native.Nat.{ℕ, ◌≤◌}
 use lib.ListN.{length}
-use Rattle.refusals.specs.declared.Refusal.{Refusal}
+use Rattle.meaning.specs.Refusals.{Refusal}
 use Rattle.patterns.specs.Format.{Format}
 use Rattle.meaning.specs.Points.{Unary}
 use Rattle.meaning.specs.Statement.{Outcome}

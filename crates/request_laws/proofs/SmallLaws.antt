@@ -4,7 +4,7 @@ use mathlib.Core.List.{List, [], ◌∷◌}
 use Prim.Native.Nat.{ℕ, ◌≤◌}
 use native.Mathlib.Omega.{arith}
 use lib.Dec.{lit≤}
-use Rattle.refusals.specs.declared.Refusal.{Refusal}
+use Rattle.meaning.specs.Refusals.{Refusal}
 use Rattle.patterns.specs.Format.{Format}
 use Rattle.meaning.specs.Statement.{Outcome, refused, given, no_refusal, Verdict, wrong, Answered₁, first₁, Answered₂, first₂, second₂}
 use Rattle.meaning.specs.Bytes.{ByteOrder, big_endian, JudgedBytes, bytes_five, JudgedDecBytes, bytes_four, dec_bytes_five, dec_bytes_six}

@@ -1,6 +1,6 @@
 -- Statements of calls on lent bytes, versions of them, and results that are packed into one number.
 use Rattle.std.specs.Prelude.{◌≡◌, List, ℕ, ◌+◌, ◌*◌, ◌≤◌}
-use Rattle.refusals.specs.declared.Refusal.{Refusal}
+use Rattle.meaning.specs.Refusals.{Refusal}
 use Rattle.meaning.specs.Calls.{Left}
 
 -- The statement of a call: what it leaves for each input and each lent output.

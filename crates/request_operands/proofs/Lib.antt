@@ -1,3 +1,2 @@
 -- Laws of operands that were read of sound bytes.
-pub mod SoundOperands
-pub mod SoundDecOperands
+pub mod OperandLaws

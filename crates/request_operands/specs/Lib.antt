@@ -1,3 +1,2 @@
 -- What the contracts of a request's operands cite.
 pub mod OperandMeaning
-pub mod DecOperandMeaning

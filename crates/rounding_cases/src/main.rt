@@ -1,95 +1,62 @@
 // Judges stored cases of the three roundings, which it reads from standard input, and writes how many are right.
 #![tactic(auto)]
 
-ghost use Rattle.std.specs.Prelude.{◌≤◌, length};
-
 use rounding_runs::cases::{CASE, Tally, count, first_wrong};
 use rounding_runs::roundings::Operation;
-use std::io::{Read, Stdin};
+use std::io::Stdin;
+use whole_reads::read_full;
 
 // Bytes that one turn reads: 2,600 whole cases.
 const CHUNK: usize = 65000;
 
-// What was found so far. `wrong` says that some case is not right, and `index` is then that of the first,
-// counted from 0; until then it is the number of cases. `more` says that the input goes on.
+const NO_CASES: Tally = Tally { right: 0, wrong: 0 };
+
+// What was found so far.
 #[derive(Clone, Copy)]
 struct Found {
     sums: Tally,
     products: Tally,
     quotients: Tally,
-    index: usize,
-    wrong: bool,
-    more: bool,
+    // How many whole cases there were. No input has so many that this sum wraps.
+    cases: usize,
+    // The number of the first case that is not right, counted from 0.
+    first_wrong: Option<usize>,
 }
 
-// Two tallies together. No input has so many cases that a sum wraps.
-fn plus(t: Tally, u: Tally) -> Tally {
-    Tally {
-        right: t.right.wrapping_add(u.right),
-        wrong: t.wrong.wrapping_add(u.wrong),
-    }
-}
+impl Found {
+    const NOTHING: Found = Found {
+        sums: NO_CASES,
+        products: NO_CASES,
+        quotients: NO_CASES,
+        cases: 0,
+        first_wrong: None,
+    };
 
-// Reads until the buffer is full, the input ends or a read fails, and counts the bytes that were read.
-fn read_full(input: &mut Stdin, buffer: &mut [u8]) -> usize
-    ensures { result ≤ length buffer.new }
-{
-    let mut done = 0;
-    while done < buffer.len() {
-        match input.read(&mut buffer[done..]) {
-            Ok(0) => break,
-            Ok(n) => done += n,
-            Err(_) => break,
+    // With the cases of the next bytes. A last piece that is no whole case is found wrong.
+    fn and(self, bytes: &[u8]) -> Found {
+        let right = first_wrong(bytes);
+        let wrong = (right * CASE < bytes.len()).then_some(self.cases.wrapping_add(right));
+        Found {
+            sums: self.sums + count(bytes, Operation::Sum),
+            products: self.products + count(bytes, Operation::Product),
+            quotients: self.quotients + count(bytes, Operation::Quotient),
+            cases: self.cases.wrapping_add(bytes.len() / CASE),
+            first_wrong: self.first_wrong.or(wrong),
         }
     }
-    done
 }
 
-// One turn. A last piece that is no whole case is found wrong.
-fn judge_some(input: &mut Stdin, found: Found) -> Found {
-    let mut buffer = [0u8; CHUNK];
-    let n = read_full(input, &mut buffer);
-    let sums = plus(found.sums, count(&buffer[..n], Operation::Sum));
-    let products = plus(found.products, count(&buffer[..n], Operation::Product));
-    let quotients = plus(found.quotients, count(&buffer[..n], Operation::Quotient));
-    let more = n == CHUNK;
-    if found.wrong {
-        return Found {
-            sums,
-            products,
-            quotients,
-            index: found.index,
-            wrong: true,
-            more,
-        };
-    }
-    let first = first_wrong(&buffer[..n]);
-    Found {
-        sums,
-        products,
-        quotients,
-        index: found.index.wrapping_add(first),
-        wrong: first != n / CASE || n % CASE != 0,
-        more,
-    }
-}
-
-// All of the input. A proved loop has to end, and nothing says that the input does, so the turns are counted down,
-// from a number that no run uses up.
+// All of the input. A proved loop has to end, and nothing says that the input does, so the turns are counted, up to a number
+// that no run comes to.
 fn judge_all(input: &mut Stdin) -> Found {
-    let none = Tally { right: 0, wrong: 0 };
-    let mut found = Found {
-        sums: none,
-        products: none,
-        quotients: none,
-        index: 0,
-        wrong: false,
-        more: true,
-    };
-    let mut turns = u64::MAX;
-    while turns > 0 && found.more {
-        found = judge_some(input, found);
-        turns -= 1;
+    let mut found = Found::NOTHING;
+    for _ in 0..u64::MAX {
+        let mut buffer = [0; CHUNK];
+        let length = read_full(input, &mut buffer);
+        found = found.and(&buffer[..length]);
+        if length < CHUNK {
+            break;
+        }
     }
     found
 }
@@ -100,12 +67,11 @@ fn write_tally(rt: &HostRuntime, name: &str, t: Tally) {
 }
 
 fn main(rt: HostRuntime) {
-    let mut input = rt.stdin();
-    let found = judge_all(&mut input);
+    let found = judge_all(&mut rt.stdin());
     write_tally(&rt, "sum", found.sums);
     write_tally(&rt, "product", found.products);
     write_tally(&rt, "quotient", found.quotients);
-    if found.wrong {
-        let _ = println!(rt; "first wrong case: {}", found.index);
+    if let Some(index) = found.first_wrong {
+        let _ = println!(rt; "first wrong case: {index}");
     }
 }

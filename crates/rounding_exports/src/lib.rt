@@ -3,9 +3,10 @@
 
 ghost use Rattle.std.specs.Prelude.{◌≡◌, length};
 ghost use Rattle.truth.specs.Answers.{Answers};
+ghost use Rattle.refusals.specs.RefusalMeaning.{said};
 ghost use Rattle.rounding_exports.specs.Columns.{Filled, FilledOrRefused, TakesRows};
 
-use refusals::Refusal;
+use refusals::{Fault, Place, Refusal};
 use rounding_runs::roundings::{Operation, rounded, takes};
 
 // Whether the operation takes the operands of every row. None is skipped: a branch in each row would cost more.
@@ -14,10 +15,9 @@ fn takes_rows(o: Operation, a: &[u64], b: &[u64]) -> bool
     ensures { Answers (TakesRows o a.now b.now) result }
 {
     let mut all = true;
-    let mut k = 0;
-    while k < a.len() {
-        all = all & takes(o, a[k], b[k]);
-        k += 1;
+    // Counted, and not over a zip, which LLVM does not vectorize: sums took 0.97 times plain Rust's time with it, in place of 0.82.
+    for k in 0..a.len() {
+        all &= takes(o, a[k], b[k]);
     }
     all
 }
@@ -27,28 +27,37 @@ fn fill(o: Operation, a: &[u64], b: &[u64], out: &mut [u64])
     requires { (length b.now ≡ length a.now) × (length out.old ≡ length a.now) × TakesRows o a.now b.now }
     ensures { Filled o a.now b.now out.new }
 {
-    let mut k = 0;
-    while k < a.len() {
+    // Counted, since nothing is known of what is written through `iter_mut` under an adapter.
+    for k in 0..a.len() {
         out[k] = rounded(o, a[k], b[k]);
-        k += 1;
     }
 }
 
 // Judges all rows before the first is written.
-fn fill_or_refuse(o: Operation, a: &[u64], b: &[u64], out: &mut [u64]) -> u32
-    ensures { FilledOrRefused o a.now b.now out.old result out.new }
+fn fill_or_refuse(o: Operation, a: &[u64], b: &[u64], out: &mut [u64]) -> Result<(), Refusal>
+    ensures { FilledOrRefused o a.now b.now out.old (said result).number out.new }
 {
     if b.len() != a.len() {
-        return Refusal::WRONG_LENGTH.number;
+        return Err(Refusal::WrongLength);
     }
     if out.len() != a.len() {
-        return Refusal::WRONG_ROOM.number;
+        return Err(Refusal::WrongRoom);
     }
     if !takes_rows(o, a, b) {
-        return Refusal::BAD_ENDS.number;
+        return Err(Refusal::Operand(Place::First, Fault::BadEnds));
     }
     fill(o, a, b, out);
-    Refusal::NONE.number
+    Ok(())
+}
+
+// Document 01's number of a refusal, and 0 of none. C takes a number.
+fn number(answer: Result<(), Refusal>) -> u32
+    ensures { result ≡ (said answer).number }
+{
+    match answer {
+        Ok(()) => 0,
+        Err(refusal) => u32::from(refusal.number()),
+    }
 }
 
 // The sum of each row.
@@ -56,7 +65,7 @@ fn fill_or_refuse(o: Operation, a: &[u64], b: &[u64], out: &mut [u64]) -> u32
 pub extern "C" fn rounding_exports_sums(a: &[u64], b: &[u64], out: &mut [u64]) -> u32
     ensures { FilledOrRefused Operation.Sum a.now b.now out.old result out.new }
 {
-    fill_or_refuse(Operation::Sum, a, b, out)
+    number(fill_or_refuse(Operation::Sum, a, b, out))
 }
 
 // The product of each row.
@@ -64,7 +73,7 @@ pub extern "C" fn rounding_exports_sums(a: &[u64], b: &[u64], out: &mut [u64]) -
 pub extern "C" fn rounding_exports_products(a: &[u64], b: &[u64], out: &mut [u64]) -> u32
     ensures { FilledOrRefused Operation.Product a.now b.now out.old result out.new }
 {
-    fill_or_refuse(Operation::Product, a, b, out)
+    number(fill_or_refuse(Operation::Product, a, b, out))
 }
 
 // The quotient of each row.
@@ -72,5 +81,5 @@ pub extern "C" fn rounding_exports_products(a: &[u64], b: &[u64], out: &mut [u64
 pub extern "C" fn rounding_exports_quotients(a: &[u64], b: &[u64], out: &mut [u64]) -> u32
     ensures { FilledOrRefused Operation.Quotient a.now b.now out.old result out.new }
 {
-    fill_or_refuse(Operation::Quotient, a, b, out)
+    number(fill_or_refuse(Operation::Quotient, a, b, out))
 }

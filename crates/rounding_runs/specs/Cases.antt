@@ -1,17 +1,23 @@
 -- Stored cases, and how many of them are right.
-use Rattle.std.specs.Prelude.{List, ◌≡◌, ℕ, zero, suc, ◌+◌, ◌*◌, ◌/◌, ◌<◌, ◌≤◌, length, get_or}
+use Rattle.std.specs.Prelude.{List, ◌≡◌, ℕ, zero, suc, ◌+◌, ◌*◌, ◌/◌, ◌%◌, ◌^◌, ◌<◌, ◌≤◌, length, get_or, Result, MatchResult}
 use Rattle.patterns.specs.Format.{binary64}
 use Rattle.patterns.specs.Rounding.{Up}
 use Rattle.rounding_runs.specs.Operations.{Takes, exact_of}
 use Rattle.rounding_runs.specs.Words.{word_at}
 use Rattle.rounding_runs.specs.declared.roundings.Operation.{Operation}
 use Rattle.rounding_runs.specs.declared.roundings.Operation.TheVariants.{Sum, Product, Quotient}
+use Rattle.rounding_runs.specs.declared.roundings.UnknownOperation.{UnknownOperation}
+use Rattle.rounding_runs.specs.declared.cases.Tally.{Tally}
 
 -- Document 01's operation numbers.
 abbrev pub number_of : Operation → ℕ
 number_of Sum = 2
 number_of Product = 4
 number_of Quotient = 5
+
+-- The operation that has the number, or that none has it.
+abbrev pub Numbered : ℕ → Result Operation UnknownOperation → Type 0
+Numbered number r = MatchResult r (λ o. number_of o ≡ number) (λ e. (o : Operation) → number_of o ≡ number → ⊥)
 
 -- The answer is the exact result rounded upward, of operands that the operation takes.
 pub record Right (o : Operation) (a b answer : ℕ) : Type 0 where
@@ -43,6 +49,10 @@ pub data Counted (P : ℕ → Type 0) : ℕ → ℕ → Type 0 where
   none : Counted P zero zero
   more : {n count : ℕ} → P n → Counted P n count → Counted P (suc n) (suc count)
   same : {n count : ℕ} → (P n → ⊥) → Counted P n count → Counted P (suc n) count
+
+-- Both counts of two tallies together, as `usize` holds them.
+abbrev pub Together : Tally → Tally → Tally → Type 0
+Together t u both = (both.right ≡ (t.right + u.right) % 2 ^ 64) × (both.wrong ≡ (t.wrong + u.wrong) % 2 ^ 64)
 
 -- All cases before `k` are right, and `k` is past the last case or not right.
 pub record FirstWrong (s : List ℕ) (k : ℕ) : Type 0 where

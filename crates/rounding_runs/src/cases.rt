@@ -1,10 +1,11 @@
 // Stored cases: which are right, and how many.
-ghost use Rattle.std.specs.Prelude.{◌+◌, ◌*◌, ◌/◌, ◌≤◌, ◌≡◌, length};
+ghost use Rattle.std.specs.Prelude.{◌*◌, ◌/◌, ◌≡◌, length};
 ghost use Rattle.truth.specs.Answers.{Answers};
-ghost use Rattle.rounding_runs.specs.Cases.{Counted, FirstWrong, Right, RightCase, Says, SomeRightCase, WrongCase, number_of};
+ghost use Rattle.rounding_runs.specs.Cases.{Counted, FirstWrong, Right, RightCase, Says, SomeRightCase, Together, WrongCase, number_of};
 
 use crate::roundings::{Operation, rounded, takes};
 use crate::words::word;
+use std::ops::Add;
 
 // Bytes of a case: the operation's number, and three big-endian words.
 pub const CASE: usize = 25;
@@ -25,63 +26,49 @@ pub struct Tally {
     pub wrong: usize,
 }
 
+// The counts of both, which wrap where a `usize` has no room for them.
+impl Add for Tally {
+    type Output = Tally;
+
+    ghost add_gives = { Together };
+
+    fn add(self, other: Tally) -> Tally {
+        Tally {
+            right: self.right.wrapping_add(other.right),
+            wrong: self.wrong.wrapping_add(other.wrong),
+        }
+    }
+}
+
 // Document 01's number of the operation.
 fn number(o: Operation) -> u8
     ensures { result ≡ number_of o }
 {
-    match o {
-        Operation::Sum => 2,
-        Operation::Product => 4,
-        Operation::Quotient => 5,
-    }
+    o as u8
 }
 
 // Whether the answer is the exact result rounded upward.
 fn right(o: Operation, a: u64, b: u64, answer: u64) -> bool
     ensures { Answers (Right o a b answer) result }
 {
-    if takes(o, a, b) {
-        return rounded(o, a, b) == answer;
-    }
-    false
+    takes(o, a, b) && rounded(o, a, b) == answer
 }
 
-// Whether what the case at `at` says is right.
-fn says(s: &[u8], o: Operation, at: usize) -> bool
-    requires { at + 25 ≤ length s.now }
-    ensures { Answers (Says s.now o at) result }
+// Whether what the case says of the operation is right.
+fn says(case: &[u8; CASE], o: Operation) -> bool
+    ensures { Answers (Says case.now o 0) result }
 {
-    right(
-        o,
-        word(s, at + FIRST),
-        word(s, at + SECOND),
-        word(s, at + ANSWER),
-    )
+    right(o, word(case, FIRST), word(case, SECOND), word(case, ANSWER))
 }
 
-// Whether the case at `at` is one of the operation, and right.
-fn is_right_of(s: &[u8], o: Operation, at: usize) -> bool
-    requires { at + 25 ≤ length s.now }
-    ensures { Answers (RightCase s.now o at) result }
+// Whether the case is right.
+fn is_right(case: &[u8; CASE]) -> bool
+    ensures { Answers (SomeRightCase case.now 0) result }
 {
-    if s[at] == number(o) {
-        return says(s, o, at);
+    match Operation::try_from(case[0]) {
+        Ok(o) => says(case, o),
+        Err(_) => false,
     }
-    false
-}
-
-// Whether the case at `at` is right.
-fn is_right(s: &[u8], at: usize) -> bool
-    requires { at + 25 ≤ length s.now }
-    ensures { Answers (SomeRightCase s.now at) result }
-{
-    if is_right_of(s, Operation::Sum, at) {
-        return true;
-    }
-    if is_right_of(s, Operation::Product, at) {
-        return true;
-    }
-    is_right_of(s, Operation::Quotient, at)
 }
 
 // The cases of one operation, counted.
@@ -89,20 +76,18 @@ pub fn count(s: &[u8], o: Operation) -> Tally
     ensures right { Counted (λ k. RightCase s.now o (k * 25)) (length s.now / 25) result.right }
     ensures wrong { Counted (λ k. WrongCase s.now o (k * 25)) (length s.now / 25) result.wrong }
 {
+    let (cases, _) = s.as_chunks::<CASE>();
     let of = number(o);
     let mut right = 0;
     let mut wrong = 0;
-    let mut k = 0;
-    while k < s.len() / CASE {
-        let at = k * CASE;
-        if s[at] == of {
-            if says(s, o, at) {
+    for case in cases {
+        if case[0] == of {
+            if says(case, o) {
                 right += 1;
             } else {
                 wrong += 1;
             }
         }
-        k += 1;
     }
     Tally { right, wrong }
 }
@@ -111,12 +96,9 @@ pub fn count(s: &[u8], o: Operation) -> Tally
 pub fn first_wrong(s: &[u8]) -> usize
     ensures { FirstWrong s.now result }
 {
-    let mut k = 0;
-    while k < s.len() / CASE {
-        if !is_right(s, k * CASE) {
-            return k;
-        }
-        k += 1;
-    }
-    k
+    let (cases, _) = s.as_chunks::<CASE>();
+    cases
+        .iter()
+        .position(|case| !is_right(case))
+        .unwrap_or(cases.len())
 }

@@ -1,19 +1,13 @@
--- Doubles taken apart, brought to full length, and packable.
+-- Doubles taken apart and brought to full length.
 use mathlib.Core.Logic.{⊎_elim}
 use mathlib.Core.Path.{◌≡◌, sym, ap, subst, ◌∙◌}
 use Prim.Native.Nat.{ℕ, ◌+◌, ◌*◌, ◌^◌, ◌<◌, ◌≤◌}
 use native.Mathlib.Nat.{eq_of_mul-eq-mul_right, mul_assoc, mul-le-mul, mul-one}
 use native.Mathlib.Omega.{arith}
-use lib.Dec.{lit<, lit≤}
 use lib.Pow.{pow-add, pow_mono, pow_pos}
-use Rattle.packing.specs.Bracket.{FineEnough}
 use Rattle.packing.specs.Magnitude.{Unpacks, Normalised}
-use Rattle.packing.specs.Packing.{Packable}
 use Rattle.patterns.specs.Value.{value}
 use Rattle.significands.specs.Normal.{Full, Worth}
-
-pub packable : {m e : ℕ} → e < 2 ^ 13 → FineEnough 52 m e → Packable 52 2047 m e
-packable near fine = record { some = lit< tt; narrow = lit≤ tt; ranged = lit≤ tt; coded = lit< tt; near = near; fine = fine }
 
 -- a pattern that is not 0 has a significand that is not
 pub unpacked_positive : {b m e : ℕ} → Unpacks 52 b m e → 0 < b → 0 < m
@@ -21,6 +15,9 @@ unpacked_positive u some = let pattern = u.pattern in ⊎_elim (λ none. omega a
 
 unpacked_worth : {b m e : ℕ} → Unpacks 52 b m e → value 52 b * 2 ^ 52 ≡ m * 2 ^ (e + 52)
 unpacked_worth {b} {m} {e} u = ap (λ (v : ℕ). v * 2 ^ 52) u.worth ∙ mul_assoc m (2 ^ e) (2 ^ 52) ∙ ap (λ (p : ℕ). m * p) (sym (pow-add 2 e 52))
+
+pub normal_worth : {b m e m' e' : ℕ} → Unpacks 52 b m e → Normalised 52 m (e + 52) m' e' → Worth (value 52 b) m' e'
+normal_worth u normal = unpacked_worth u ∙ sym normal.worth
 
 -- an exponent that counts from 2 ^ -52 of the unit lasts until the significand has all its digits
 module _ {b m e m' e' : ℕ} (some : 0 < b) (near : e < 2 ^ 11) (u : Unpacks 52 b m e) (normal : Normalised 52 m (e + 52) m' e') where
@@ -40,6 +37,3 @@ module _ {b m e m' e' : ℕ} (some : 0 < b) (near : e < 2 ^ 11) (u : Unpacks 52 
     short = ⊎_elim unshifted (λ short. short) normal.lowered.short;
     near = let lower = normal.lowered.lower in omega arith;
   }
-
-  pub normal_worth : Worth (value 52 b) m' e'
-  normal_worth = unpacked_worth u ∙ sym normal.worth

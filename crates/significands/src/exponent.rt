@@ -8,14 +8,3 @@ pub fn difference(over: u32, under: u32) -> i32
 {
     (over as i32) - (under as i32)
 }
-
-// The exponent without its sign.
-pub fn size(exponent: i32) -> u32
-    requires { nat_abs exponent < 2 ^ 13 }
-    ensures { result ≡ nat_abs exponent }
-{
-    if exponent < 0 {
-        return (-exponent) as u32;
-    }
-    exponent as u32
-}

@@ -1,7 +1,8 @@
-// What the roundings of sums, products and quotients share: significands of full length, signed exponents, and the sign of an answer.
-// It stands on packing, whose function brings them to full length.
+// What the roundings of sums, products and quotients share: significands of full length, signed exponents, brackets for doubles, and the
+// sign of an answer. It stands on packing, whose function brings significands to full length.
 #![tactic(auto)]
 
+pub mod bracket;
 pub mod double;
 pub mod exponent;
 pub mod normal;

@@ -4,22 +4,31 @@ ghost use Rattle.patterns.specs.Format.{binary64, infinity};
 ghost use Rattle.patterns.specs.Value.{value};
 ghost use Rattle.significands.specs.Normal.{Full, Worth};
 
-use crate::double::FRACTION;
-use packing::magnitude::{Unpacked, normalised, unpack};
+use crate::double::{DOUBLE, FRACTION};
+use packing::magnitude::Unpacked;
 
-// The value of a magnitude pattern, with all its digits. The exponent counts from 2^-52 of the smallest positive number,
+// A significand with all its digits. The exponent counts from 2^-52 of the smallest positive number,
 // so that it has enough to be lowered by for every subnormal number.
-pub fn normalise(b: u64) -> Unpacked
+#[derive(Clone, Copy)]
+pub struct Normal {
+    pub significand: u64,
+    pub exponent: u32,
+    ghost full: { Full significand exponent },
+}
+
+// The value of a magnitude pattern, with all its digits.
+pub fn normalise(b: u64) -> Normal
     requires { (0 < b) × (b < infinity binary64) }
-    ensures full { Full result.significand result.exponent }
-    ensures worth { Worth (value 52 b) result.significand result.exponent }
+    ensures { Worth (value 52 b) result.significand result.exponent }
 {
-    let u = unpack(FRACTION, b);
-    normalised(
-        FRACTION,
-        Unpacked {
-            significand: u.significand,
-            exponent: u.exponent + FRACTION,
-        },
-    )
+    let u = DOUBLE.unpack(b);
+    let raised = Unpacked {
+        exponent: u.exponent + FRACTION,
+        ..u
+    };
+    let n = DOUBLE.normalised(raised);
+    Normal {
+        significand: n.significand,
+        exponent: n.exponent,
+    }
 }

@@ -2,14 +2,12 @@
 ghost use Rattle.std.specs.Bool.{xor};
 ghost use Rattle.std.specs.Prelude.{◌≡◌, ℕ, ◌^◌, ◌<◌, ltb};
 ghost use Rattle.packing.specs.Bracket.{Brackets};
-ghost use Rattle.packing.specs.Packing.{Packable, PacksUp, PacksDown};
 ghost use Rattle.patterns.specs.Format.{binary64};
 ghost use Rattle.patterns.specs.Rounding.{Up};
 ghost use Rattle.significands.specs.SignedExact.{signed};
 
-use crate::double::{CODES, FRACTION, SIGN};
-use packing::bracket::Approx;
-use packing::pack::{pack_down, pack_up};
+use crate::bracket::DoubleBracket;
+use crate::double::{DOUBLE, SIGN};
 
 // Whether two doubles have unlike signs.
 pub fn differ(a: u64, b: u64) -> bool
@@ -18,33 +16,19 @@ pub fn differ(a: u64, b: u64) -> bool
     (a < SIGN) ^ (b < SIGN)
 }
 
-// The magnitude rounded away from zero.
-fn away_from_zero(a: Approx) -> u64
-    requires { Packable 52 2047 a.significand a.exponent }
-    ensures { PacksUp 52 2047 a.significand a.exponent a.exact result }
-{
-    pack_up(FRACTION, CODES, a)
-}
-
-// The magnitude rounded toward zero.
-fn toward_zero(a: Approx) -> u64
-    requires { Packable 52 2047 a.significand a.exponent }
-    ensures { PacksDown 52 2047 a.significand a.exponent a.exact result }
-{
-    pack_down(FRACTION, CODES, a)
-}
-
-// The value with its sign, rounded upward. A negative value above the greatest negative double rounds to +0.0.
-pub fn round_up(negative: bool, a: Approx) -> u64
-    requires { Packable 52 2047 a.significand a.exponent }
-    ensures { (n d : ℕ) → 0 < d → Brackets n d a.significand a.exponent a.exact → Up binary64 (signed negative n d) result }
-{
-    if negative {
-        let b = toward_zero(a);
-        if b == 0 {
-            return 0;
+impl DoubleBracket {
+    // The value with its sign, rounded upward: a magnitude away from zero, and a negative value's toward it.
+    // A negative value above the greatest negative double rounds to +0.0.
+    pub fn round_up(self, negative: bool) -> u64
+        ensures { (n d : ℕ) → 0 < d → Brackets n d self.significand self.exponent self.exact → Up binary64 (signed negative n d) result }
+    {
+        if negative {
+            let b = DOUBLE.pack_down(self.approx());
+            if b == 0 {
+                return 0;
+            }
+            return SIGN | b;
         }
-        return SIGN | b;
+        DOUBLE.pack_up(self.approx())
     }
-    away_from_zero(a)
 }

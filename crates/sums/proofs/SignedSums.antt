@@ -1,17 +1,24 @@
 -- The exact sum of two patterns, by the sign of the greater magnitude and whether their signs differ, over any format.
 use mathlib.Core.Bool.{Bool, true, false, not, xor}
-use mathlib.Core.Path.{◌≡◌, refl}
-use Prim.Native.Nat.{ℕ, ◌+◌, ◌-◌, ◌≤◌}
+use mathlib.Core.Logic.{⊎_elim}
+use mathlib.Core.Path.{◌≡◌, refl, subst₂}
+use Prim.Native.Nat.{ℕ, ◌+◌, ◌-◌, ◌<◌, ◌≤◌}
 use native.Mathlib.Omega.{arith}
 use lib.Dec.{ltb}
 use Rattle.truth.specs.Answers.{Answers}
 use Rattle.patterns.specs.Format.{Format, sign_bit}
 use Rattle.patterns.specs.Value.{value, magnitude, plus, minus, choose}
 use Rattle.patterns.specs.Rounding.{Exact, Up, Reached, sum_of}
-use Rattle.patterns.proofs.ValueLaws.{value_mono}
+use Rattle.patterns.proofs.ValueLaws.{le_or_lt, value_mono}
 use Rattle.patterns.proofs.UpLaws.{up_same}
 use Rattle.patterns.proofs.ToldLaws.{reached_same}
 use Rattle.significands.specs.SignedExact.{signed}
+
+-- What is told of two patterns in order, and does not depend on their order, is told of them as they were given.
+pub either_order : (P : ℕ → ℕ → Type 0) (v w a b : ℕ) {great small : ℕ} → (P b a → P a b)
+    → (w ≤ v → (great ≡ a) × (small ≡ b)) → (v < w → (great ≡ b) × (small ≡ a)) → P great small → P a b
+either_order P v w a b swap kept swapped told =
+    ⊎_elim (λ le. subst₂ P (kept le).0 (kept le).1 told) (λ less. swap (subst₂ P (swapped less).0 (swapped less).1 told)) (le_or_lt w v)
 
 -- The sum of v and w, of which s and t say whether they are positive.
 abbrev signed_sum : (s t : Bool) (v w : ℕ) → Exact

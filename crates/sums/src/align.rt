@@ -1,18 +1,20 @@
 // Two magnitudes brought to one exponent.
-ghost use Rattle.std.specs.Prelude.{◌≡◌, max, ◌-◌, ◌*◌, ◌^◌, ◌<◌, ◌≤◌};
-ghost use Rattle.patterns.specs.Format.{binary64, infinity};
-ghost use Rattle.patterns.specs.Value.{value};
+ghost use Rattle.std.specs.Prelude.{◌≡◌, max, ◌-◌, ◌*◌, ◌^◌};
+ghost use Rattle.patterns.specs.Format.{binary64};
+ghost use Rattle.patterns.specs.Value.{value, magnitude};
 ghost use Rattle.sums.specs.Alignment.{Aligns, Alignable, common_exponent};
 
-use packing::bracket::{Approx, cut};
-use packing::magnitude::{Unpacked, unpack};
-use significands::double::FRACTION;
+use crate::ordered::Ordered;
+use packing::bracket::Approx;
+use packing::magnitude::Unpacked;
+use significands::double::{DOUBLE, SIGN};
 
 // Digits that the smaller significand keeps below the greater one's last.
 // With them, the 53 digits of a significand and a carry fill a word.
 const GUARD: u32 = 10;
 
 // The greater magnitude is high * 2^exponent, and the smaller one is cut to low * 2^exponent.
+// A flag and no Option says whether nothing was cut off, since the columns count either way.
 #[derive(Clone, Copy)]
 pub struct Columns {
     pub high: u64,
@@ -41,7 +43,7 @@ fn align(p: Unpacked, q: Unpacked) -> Columns
         exponent: q.exponent,
         exact: true,
     };
-    let tail = cut(whole, distance - GUARD);
+    let tail = whole.cut(distance - GUARD);
     Columns {
         high: p.significand << GUARD,
         low: tail.significand,
@@ -50,11 +52,15 @@ fn align(p: Unpacked, q: Unpacked) -> Columns
     }
 }
 
-// The magnitudes of two patterns, the first not the smaller.
-pub fn aligned(x: u64, y: u64) -> Columns
-    requires { (y ≤ x) × (x < infinity binary64) }
-    ensures exponent { result.exponent ≡ common_exponent x y }
-    ensures aligns { Aligns (value 52 x) (value 52 y) result.high result.low result.exponent result.exact }
-{
-    align(unpack(FRACTION, x), unpack(FRACTION, y))
+impl Ordered {
+    // The magnitudes of the two.
+    pub fn aligned(self) -> Columns
+        ensures exponent { result.exponent ≡ common_exponent (magnitude binary64 self.great) (magnitude binary64 self.small) }
+        ensures aligns { Aligns (value 52 (magnitude binary64 self.great)) (value 52 (magnitude binary64 self.small)) result.high result.low result.exponent result.exact }
+    {
+        align(
+            DOUBLE.unpack(self.great % SIGN),
+            DOUBLE.unpack(self.small % SIGN),
+        )
+    }
 }

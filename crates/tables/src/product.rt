@@ -23,15 +23,13 @@ pub fn product_corner(x: Kind, y: Kind) -> Corner
             Kind::Z => Corner::Zero,
         },
         Kind::N => match y {
-            Kind::M => Corner::LowerLower,
-            Kind::N => Corner::LowerLower,
+            Kind::M | Kind::N => Corner::LowerLower,
             Kind::P => Corner::UpperLower,
             Kind::Z => Corner::Zero,
         },
         Kind::P => match y {
-            Kind::M => Corner::UpperUpper,
+            Kind::M | Kind::P => Corner::UpperUpper,
             Kind::N => Corner::LowerUpper,
-            Kind::P => Corner::UpperUpper,
             Kind::Z => Corner::Zero,
         },
         Kind::Z => Corner::Zero,

@@ -21,31 +21,25 @@ pub fn quotient_corner(x: Kind, y: IntervalClass) -> Corner
 {
     match x {
         Kind::M => match y {
-            IntervalClass::M => Corner::Unbounded,
-            IntervalClass::N0 => Corner::Unbounded,
             IntervalClass::N1 => Corner::LowerUpper,
-            IntervalClass::P0 => Corner::Unbounded,
             IntervalClass::P1 => Corner::UpperLower,
-            IntervalClass::Z => Corner::Unbounded,
-            IntervalClass::E => Corner::Unbounded,
+            IntervalClass::M
+            | IntervalClass::N0
+            | IntervalClass::P0
+            | IntervalClass::Z
+            | IntervalClass::E => Corner::Unbounded,
         },
         Kind::N => match y {
-            IntervalClass::M => Corner::Unbounded,
-            IntervalClass::N0 => Corner::Unbounded,
             IntervalClass::N1 => Corner::LowerUpper,
-            IntervalClass::P0 => Corner::UpperUpper,
-            IntervalClass::P1 => Corner::UpperUpper,
-            IntervalClass::Z => Corner::Unbounded,
-            IntervalClass::E => Corner::Unbounded,
+            IntervalClass::P0 | IntervalClass::P1 => Corner::UpperUpper,
+            IntervalClass::M | IntervalClass::N0 | IntervalClass::Z | IntervalClass::E =>
+                Corner::Unbounded,
         },
         Kind::P => match y {
-            IntervalClass::M => Corner::Unbounded,
-            IntervalClass::N0 => Corner::LowerLower,
-            IntervalClass::N1 => Corner::LowerLower,
-            IntervalClass::P0 => Corner::Unbounded,
+            IntervalClass::N0 | IntervalClass::N1 => Corner::LowerLower,
             IntervalClass::P1 => Corner::UpperLower,
-            IntervalClass::Z => Corner::Unbounded,
-            IntervalClass::E => Corner::Unbounded,
+            IntervalClass::M | IntervalClass::P0 | IntervalClass::Z | IntervalClass::E =>
+                Corner::Unbounded,
         },
         Kind::Z => Corner::Zero,
     }

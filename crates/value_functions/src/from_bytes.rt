@@ -5,8 +5,8 @@ use dec_interval::DecInterval;
 use interchange::{bare, decorated};
 use interval::Interval;
 use lent_intervals::{BARE, DECORATED};
-use value_records::replies;
-use value_records::replies::Said;
+use refusals::Refusal;
+use value_records::replies::Answer;
 
 fn first_sixteen(operand: &[u8]) -> [u8; BARE]
     requires { 16 ≤ length operand.now }
@@ -16,17 +16,17 @@ fn first_sixteen(operand: &[u8]) -> [u8; BARE]
     first
 }
 
-// The reply to the function with a number.
-pub fn call(number: u8, operand: [u8; DECORATED]) -> Said {
+// The answer of the function with a number.
+pub fn call(number: u8, operand: [u8; DECORATED]) -> Result<Answer, Refusal> {
     match number {
-        128 => replies::bare(bare::try_from_be_bytes(first_sixteen(&operand))),
-        129 => replies::bare(bare::try_from_le_bytes(first_sixteen(&operand))),
-        130 => replies::decorated(decorated::try_from_be_bytes(operand)),
-        131 => replies::decorated(decorated::try_from_le_bytes(operand)),
-        132 => replies::bare_interval(Interval::EMPTY),
-        133 => replies::bare_interval(Interval::ENTIRE),
-        134 => replies::decorated_interval(DecInterval::EMPTY),
-        135 => replies::decorated_interval(DecInterval::NAI),
-        _ => replies::unknown_function(),
+        128 => Ok(Answer::from(bare::try_from_be_bytes(first_sixteen(&operand))?)),
+        129 => Ok(Answer::from(bare::try_from_le_bytes(first_sixteen(&operand))?)),
+        130 => Ok(Answer::from(decorated::try_from_be_bytes(operand)?)),
+        131 => Ok(Answer::from(decorated::try_from_le_bytes(operand)?)),
+        132 => Ok(Answer::from(Interval::EMPTY)),
+        133 => Ok(Answer::from(Interval::ENTIRE)),
+        134 => Ok(Answer::from(DecInterval::EMPTY)),
+        135 => Ok(Answer::from(DecInterval::NAI)),
+        _ => Err(Refusal::UnknownOperation),
     }
 }

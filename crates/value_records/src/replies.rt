@@ -9,19 +9,17 @@
 //  truth value, class, state or decoration | one byte: 0 or 1, the class or the state by its place in the order
 //                                          | declared, 16 for overlap of NaI, or the decoration's byte
 //  the interval part that NaI lacks        | zeros, and 255 last
-use crate::values::{Operand, ends_of};
 use classify::IntervalClass;
-use dec_interval::{DecAnswer, DecInterval, DecorationAnswer, PartAnswer};
-use decorations::decoration_byte;
+use dec_interval::DecInterval;
+use decorations::Decoration;
 use end_pairs::EndPair;
 use ends_in_bytes::{ByteOrder, read_ends, write_ends};
-use interchange::bare::BytesAnswer;
-use interchange::decorated::DecBytesAnswer;
-use interval::{Answer, BoolAnswer, ClassAnswer, EndAnswer, Interval};
-use lent_calls::{ANSWER_AT, NUMBER_AT, PLACE_AT, REPLY, flag_byte};
-use lent_intervals::BARE;
-use overlap::{DecState, OverlapAnswer, dec_state_number};
-use refusals::{Refusal, SECOND};
+use exact_operations::ExactInterval;
+use interval::Interval;
+use lent_calls::{ANSWER_AT, NUMBER_AT, PLACE_AT, REPLY};
+use lent_intervals::{BARE, DECORATED};
+use overlap::{Overlap, dec_state_number};
+use refusals::Refusal;
 
 // Where the last byte of the answer stands in a reply.
 const LAST_AT: usize = ANSWER_AT + BARE;
@@ -29,193 +27,126 @@ const LAST_AT: usize = ANSWER_AT + BARE;
 // Stands last, and is no decoration's byte, where NaI has no interval part.
 const MISSING: u8 = 255;
 
-// How many values a byte has.
-const BASE: u32 = 256;
-
 // What the first of eight bytes weighs.
 const FIRST_BYTE: u64 = 0x0100_0000_0000_0000;
 
-// A reply before it is written: the refusal, sixteen bytes as two patterns, and the last byte.
+// An answer before it is written: sixteen bytes as two patterns, and the last byte. The ends are written as they are, so that a zero of the
+// wrong sign shows.
 #[derive(Clone, Copy)]
-pub struct Said {
-    pub refusal: Refusal,
-    pub ends: EndPair,
-    pub last: u8,
+pub struct Answer {
+    ends: EndPair,
+    last: u8,
 }
 
+// Sixteen zero bytes.
 const NO_ENDS: EndPair = EndPair { a: 0, b: 0 };
 
-pub fn refused(refusal: Refusal) -> Said {
-    Said {
-        refusal,
-        ends: NO_ENDS,
-        last: 0,
+impl Answer {
+    // Eight bytes first, as an end.
+    pub fn end(end: u64) -> Answer {
+        Answer {
+            ends: EndPair { a: end, b: 0 },
+            last: 0,
+        }
+    }
+
+    fn one_byte(byte: u8) -> Answer {
+        Answer::end(u64::from(byte) * FIRST_BYTE)
+    }
+
+    pub fn bare_bytes(bytes: [u8; BARE]) -> Answer {
+        Answer {
+            ends: read_ends(&bytes, 0, ByteOrder::Big),
+            last: 0,
+        }
+    }
+
+    pub fn decorated_bytes(bytes: [u8; DECORATED]) -> Answer {
+        Answer {
+            ends: read_ends(&bytes, 0, ByteOrder::Big),
+            last: bytes[BARE],
+        }
     }
 }
 
-pub fn unknown_function() -> Said {
-    refused(Refusal::UNKNOWN_OPERATION)
-}
-
-// The reply to a call that takes a decoration, unless the operand's byte is no decoration's.
-pub fn if_known(x: Operand, reply: Said) -> Said {
-    if x.known {
-        return reply;
-    }
-    refused(Refusal::BAD_BYTE)
-}
-
-// The same for two operands.
-pub fn if_both_known(x: Operand, y: Operand, reply: Said) -> Said {
-    if !x.known {
-        return refused(Refusal::BAD_BYTE);
-    }
-    if !y.known {
-        return refused(Refusal {
-            number: Refusal::BAD_BYTE.number,
-            place: SECOND,
-            index: Refusal::BAD_BYTE.index,
-        });
-    }
-    reply
-}
-
-// The ends are written as they are, so that a zero of the wrong sign shows.
-fn accepted(ends: EndPair, last: u8) -> Said {
-    Said {
-        refusal: Refusal::NONE,
-        ends,
-        last,
+impl From<Interval> for Answer {
+    fn from(x: Interval) -> Answer {
+        Answer {
+            ends: x.ends,
+            last: 0,
+        }
     }
 }
 
-// Eight bytes first.
-fn first_word(a: u64) -> Said {
-    accepted(EndPair { a, b: 0 }, 0)
-}
-
-fn one_byte(b: u8) -> Said {
-    first_word((b as u64) * FIRST_BYTE)
-}
-
-pub fn bare_interval(x: Interval) -> Said {
-    accepted(x.ends, 0)
-}
-
-pub fn decorated_interval(x: DecInterval) -> Said {
-    let d = x.d;
-    accepted(x.x.ends, decoration_byte(d))
-}
-
-pub fn bare(r: Answer) -> Said {
-    match r {
-        Answer::Given(x) => bare_interval(x),
-        Answer::Refused(refusal) => refused(refusal),
+impl From<DecInterval> for Answer {
+    fn from(x: DecInterval) -> Answer {
+        Answer {
+            ends: x.x.ends,
+            last: u8::from(x.d),
+        }
     }
 }
 
-pub fn decorated(r: DecAnswer) -> Said {
-    match r {
-        DecAnswer::Given(x) => decorated_interval(x),
-        DecAnswer::Refused(refusal) => refused(refusal),
+// The interval part of a decorated interval.
+impl From<Option<Interval>> for Answer {
+    fn from(part: Option<Interval>) -> Answer {
+        match part {
+            Some(x) => Answer::from(x),
+            None => Answer {
+                ends: NO_ENDS,
+                last: MISSING,
+            },
+        }
     }
 }
 
-// The interval, and behind it 1 for the first flag and 2 for the second, added up.
-pub fn flagged_interval(x: Interval, first: bool, second: bool) -> Said {
-    accepted(x.ends, flag_byte(first) | (flag_byte(second) << 1))
-}
-
-pub fn truth(r: BoolAnswer) -> Said {
-    match r {
-        BoolAnswer::Given(b) => one_byte(flag_byte(b)),
-        BoolAnswer::Refused(refusal) => refused(refusal),
+// The interval, and behind it 1 for an exact lower and 2 for an exact upper end, added up.
+impl From<ExactInterval> for Answer {
+    fn from(z: ExactInterval) -> Answer {
+        Answer {
+            ends: z.x.ends,
+            last: u8::from(z.exact.lower) | (u8::from(z.exact.upper) << 1),
+        }
     }
 }
 
-pub fn end(r: EndAnswer) -> Said {
-    match r {
-        EndAnswer::Given(e) => first_word(e),
-        EndAnswer::Refused(refusal) => refused(refusal),
+impl From<bool> for Answer {
+    fn from(yes: bool) -> Answer {
+        Answer::one_byte(u8::from(yes))
     }
 }
 
-pub fn decoration(r: DecorationAnswer) -> Said {
-    match r {
-        DecorationAnswer::Given(d) => one_byte(decoration_byte(d)),
-        DecorationAnswer::Refused(refusal) => refused(refusal),
+impl From<Decoration> for Answer {
+    fn from(d: Decoration) -> Answer {
+        Answer::one_byte(u8::from(d))
     }
 }
 
-pub fn part(r: PartAnswer) -> Said {
-    match r {
-        PartAnswer::Given(x) => bare_interval(x),
-        PartAnswer::Missing => accepted(NO_ENDS, MISSING),
-        PartAnswer::Refused(refusal) => refused(refusal),
+impl From<IntervalClass> for Answer {
+    fn from(class: IntervalClass) -> Answer {
+        Answer::one_byte(class as u8)
     }
 }
 
-fn class_number(c: IntervalClass) -> u8 {
-    match c {
-        IntervalClass::E => 0,
-        IntervalClass::M => 1,
-        IntervalClass::N0 => 2,
-        IntervalClass::N1 => 3,
-        IntervalClass::P0 => 4,
-        IntervalClass::P1 => 5,
-        IntervalClass::Z => 6,
+// A state, or none of NaI.
+impl From<Option<Overlap>> for Answer {
+    fn from(state: Option<Overlap>) -> Answer {
+        Answer::one_byte(dec_state_number(state))
     }
 }
 
-pub fn class(r: ClassAnswer) -> Said {
-    match r {
-        ClassAnswer::Given(c) => one_byte(class_number(c)),
-        ClassAnswer::Refused(refusal) => refused(refusal),
-    }
-}
-
-pub fn state(r: OverlapAnswer) -> Said {
-    match r {
-        OverlapAnswer::Given(s) => one_byte(dec_state_number(DecState::State(s))),
-        OverlapAnswer::Nai => one_byte(dec_state_number(DecState::Nai)),
-        OverlapAnswer::Refused(refusal) => refused(refusal),
-    }
-}
-
-fn sixteen(bytes: [u8; BARE]) -> EndPair {
-    read_ends(&bytes, 0, ByteOrder::Big)
-}
-
-pub fn bare_bytes(r: BytesAnswer) -> Said {
-    let bytes = r.bytes;
-    let refusal = r.refusal;
-    Said {
-        refusal,
-        ends: sixteen(bytes),
-        last: 0,
-    }
-}
-
-pub fn decorated_bytes(r: DecBytesAnswer) -> Said {
-    let bytes = r.bytes;
-    let refusal = r.refusal;
-    Said {
-        refusal,
-        ends: ends_of(bytes),
-        last: bytes[BARE],
-    }
-}
-
-fn low_byte(n: u32) -> u8 {
-    (n % BASE) as u8
-}
-
-pub fn written(s: Said) -> [u8; REPLY] {
-    let ends = s.ends;
+// The reply to a call that was answered or refused.
+pub fn written(said: Result<Answer, Refusal>) -> [u8; REPLY] {
     let mut reply = [0u8; REPLY];
-    reply[NUMBER_AT] = low_byte(s.refusal.number);
-    reply[PLACE_AT] = low_byte(s.refusal.place);
-    write_ends(&mut reply[ANSWER_AT..], ends, ByteOrder::Big);
-    reply[LAST_AT] = s.last;
+    match said {
+        Ok(answer) => {
+            write_ends(&mut reply[ANSWER_AT..], answer.ends, ByteOrder::Big);
+            reply[LAST_AT] = answer.last;
+        }
+        Err(refusal) => {
+            reply[NUMBER_AT] = refusal.number();
+            reply[PLACE_AT] = refusal.place();
+        }
+    }
     reply
 }

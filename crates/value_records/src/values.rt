@@ -6,18 +6,26 @@ use decorations::Decoration;
 use end_pairs::EndPair;
 use ends_in_bytes::{ByteOrder, read_ends};
 use interval::Interval;
-use lent_intervals::{BARE, ByteDecoration, DECORATED, decoration_of};
+use lent_intervals::{BARE, DECORATED};
+use refusals::Fault;
 
-// What is passed: a decorated interval, and whether its byte is a decoration's. If it is none, Ill stands in for it.
+// What is passed: two patterns, and the decoration that the seventeenth byte says, if it says one.
 #[derive(Clone, Copy)]
 pub struct Operand {
-    pub value: DecInterval,
-    pub known: bool,
+    pub ends: EndPair,
+    pub decoration: Result<Decoration, Fault>,
 }
 
-// The two patterns at the front of an operand, or of an answer.
-pub(crate) fn ends_of(bytes: [u8; DECORATED]) -> EndPair {
-    read_ends(&bytes, 0, ByteOrder::Big)
+impl Operand {
+    pub fn bare(self) -> Interval {
+        Interval { ends: self.ends }
+    }
+
+    // The decorated interval, unless the byte is no decoration's.
+    pub fn decorated(self) -> Result<DecInterval, Fault> {
+        let d = self.decoration?;
+        Ok(DecInterval { x: self.bare(), d })
+    }
 }
 
 // The operand that starts at a position of a record.
@@ -31,21 +39,9 @@ pub fn operand_at(input: &[u8], start: usize) -> [u8; DECORATED]
     operand
 }
 
-fn with_decoration(ends: EndPair, d: Decoration) -> DecInterval {
-    let x = Interval { ends };
-    DecInterval { x, d }
-}
-
 pub fn operand_of(bytes: [u8; DECORATED]) -> Operand {
-    let ends = ends_of(bytes);
-    match decoration_of(bytes[BARE]) {
-        ByteDecoration::Known(d) => Operand {
-            value: with_decoration(ends, d),
-            known: true,
-        },
-        ByteDecoration::Unknown => Operand {
-            value: with_decoration(ends, Decoration::Ill),
-            known: false,
-        },
+    Operand {
+        ends: read_ends(&bytes, 0, ByteOrder::Big),
+        decoration: Decoration::try_from(bytes[BARE]),
     }
 }

@@ -19,14 +19,15 @@
 // piece that is no whole record gets number 1.
 #![tactic(auto)]
 
-ghost use Rattle.std.specs.Prelude.{◌≤◌, length};
-
+use dec_interval::DecInterval;
+use interval::Interval;
 use lent_calls::{DECORATED_REQUEST, FIRST_AT};
 use lent_intervals::DECORATED;
 use refusals::Refusal;
-use std::io::{Read, Stdin, Stdout, Write};
-use value_records::replies::{Said, refused, unknown_function, written};
+use std::io::{Stdin, Stdout, Write};
+use value_records::replies::{Answer, written};
 use value_records::values::{operand_at, operand_of};
+use whole_reads::read_full;
 
 // The bytes of a record.
 const RECORD: usize = DECORATED_REQUEST;
@@ -53,37 +54,22 @@ const BARE_BY_NAME: u8 = 6;
 
 const EXACT_OPERATIONS: u8 = 7;
 
-// The reply to a record with this number and these operands.
-fn answer(number: u8, first: [u8; DECORATED], second: [u8; DECORATED]) -> Said {
+// The answer to a record with this number and these operands.
+fn answer(number: u8, first: [u8; DECORATED], second: [u8; DECORATED]) -> Result<Answer, Refusal> {
     let x = operand_of(first);
     let y = operand_of(second);
     let operation = number % GROUP;
     match number / GROUP {
-        DECORATED_OPERATIONS => value_decorated::call(operation, false, x, y),
-        BARE_OPERATIONS => value_bare::call(operation, false, x, y),
+        DECORATED_OPERATIONS => value_operations::call::<DecInterval>(operation, false, x, y),
+        BARE_OPERATIONS => value_operations::call::<Interval>(operation, false, x, y),
         BARE_FUNCTIONS => value_functions::bare::call(number, x),
         DECORATED_FUNCTIONS => value_functions::decorated::call(number, x),
         FROM_BYTES => value_functions::from_bytes::call(number, first),
-        DECORATED_BY_NAME => value_decorated::call(operation, true, x, y),
-        BARE_BY_NAME => value_bare::call(operation, true, x, y),
+        DECORATED_BY_NAME => value_operations::call::<DecInterval>(operation, true, x, y),
+        BARE_BY_NAME => value_operations::call::<Interval>(operation, true, x, y),
         EXACT_OPERATIONS => value_exact::call(operation, x, y),
-        _ => unknown_function(),
+        _ => Err(Refusal::UnknownOperation),
     }
-}
-
-// Reads until the buffer is full, the input ends or a read fails, and counts the bytes that were read.
-fn read_full(input: &mut Stdin, buffer: &mut [u8]) -> usize
-    ensures { result ≤ length buffer.new }
-{
-    let mut done = 0;
-    while done < buffer.len() {
-        match input.read(&mut buffer[done..]) {
-            Ok(0) => break,
-            Ok(n) => done += n,
-            Err(_) => break,
-        }
-    }
-    done
 }
 
 // Answers the next record, and says whether there was one.
@@ -94,7 +80,7 @@ fn answer_next(stdin: &mut Stdin, stdout: &mut Stdout) -> bool {
         return false;
     }
     if arrived < RECORD {
-        let reply = written(refused(Refusal::WRONG_LENGTH));
+        let reply = written(Err(Refusal::WrongLength));
         let _ = stdout.write_all(&reply);
         return false;
     }
@@ -109,11 +95,9 @@ fn answer_next(stdin: &mut Stdin, stdout: &mut Stdout) -> bool {
 fn main(rt: HostRuntime) {
     let mut stdin = rt.stdin();
     let mut stdout = rt.stdout();
-    let mut left = u64::MAX;
-    while left > 0 {
+    for _ in 0..u64::MAX {
         if !answer_next(&mut stdin, &mut stdout) {
             return;
         }
-        left -= 1;
     }
 }

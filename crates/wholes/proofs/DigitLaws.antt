@@ -5,10 +5,10 @@ use Prim.Native.Nat.{ℕ, suc, ◌+◌, ◌-◌, ◌*◌, ◌/◌, ◌%◌, ◌^
 use native.Mathlib.Nat.{le_of_lt, div-add-mod', mod-lt, mul-le-mul_right, mul-lt-mul_of_pos_right, lt_of_mul-lt-mul_right, two-pow-succ}
 use native.Mathlib.Omega.{arith}
 use lib.Pow.{pow_pos, pow-add}
+use Rattle.std.proofs.Common.{Ordering, Less, Equal, Greater}
+use Rattle.std.specs.Ordering.{MatchOrdering}
 use Rattle.patterns.specs.Value.{value}
 use Rattle.patterns.proofs.ValueLaws.{packed, pow_next}
-use Rattle.wholes.specs.Enclosure.{Lies, before, same, past}
-use Rattle.wholes.specs.declared.split.Side.{Side}
 
 -- The pattern b has the significand q at the exponent k, and the last s digits of q stand after the point.
 pub record Cuts (h p b k s q : ℕ) : Type 0 where
@@ -19,11 +19,15 @@ pub record Cuts (h p b k s q : ℕ) : Type 0 where
   pub some : 0 < s
   pub inside : s ≤ h
 
+-- How a number compares with a middle.
+abbrev pub Lies : ℕ → ℕ → Ordering → Type 0
+Lies at middle z = MatchOrdering z (at < middle) (at ≡ middle) (middle < at)
+
 -- Twice a number compares with twice another as they do, also as multiples of a unit.
-doubled : (v w k : ℕ) {a m : ℕ} {z : Side} → 0 < k → v ≡ w + 2 * a * k → {e : ℕ} → e ≡ w + 2 * m * k → Lies a m z → Lies v e z
-doubled v w k pos p q (before l) = before (omega (arith, mul-lt-mul_of_pos_right l pos))
-doubled v w k pos p q (same e) = same (omega (arith, ap (λ (t : ℕ). t * k) e))
-doubled v w k pos p q (past l) = past (omega (arith, mul-lt-mul_of_pos_right l pos))
+doubled : (v w k a m : ℕ) (z : Ordering) → 0 < k → v ≡ w + 2 * a * k → {e : ℕ} → e ≡ w + 2 * m * k → Lies a m z → Lies v e z
+doubled v w k a m Less pos p q l = omega (arith, mul-lt-mul_of_pos_right l pos)
+doubled v w k a m Equal pos p q e = omega (arith, ap (λ (t : ℕ). t * k) e)
+doubled v w k a m Greater pos p q l = omega (arith, mul-lt-mul_of_pos_right l pos)
 
 module _ {h p b k s q : ℕ} (c : Cuts h p b k s q) where
   divided : q / 2 ^ s * 2 ^ s + q % 2 ^ s ≡ q
@@ -71,9 +75,9 @@ module _ {h p b k s q : ℕ} (c : Cuts h p b k s q) where
   halves : 2 ^ s ≡ 2 * (2 ^ s / 2)
   halves = let i = c.some in omega (arith, ap (λ (j : ℕ). 2 ^ j) {x = s} {y = suc (s - 1)} (omega arith), two-pow-succ (s - 1))
 
-  pub side_value : {z : Side} → Lies (q % 2 ^ s) (2 ^ s / 2) z → Lies (2 * value h b) ((2 * (q / 2 ^ s) + 1) * 2 ^ p) z
-  side_value =
-      doubled _ (2 * (q / 2 ^ s) * 2 ^ p) (2 ^ k) (pow_pos k) (omega (arith, here_value))
+  pub side_value : (z : Ordering) → Lies (q % 2 ^ s) (2 ^ s / 2) z → Lies (2 * value h b) ((2 * (q / 2 ^ s) + 1) * 2 ^ p) z
+  side_value z =
+      doubled _ (2 * (q / 2 ^ s) * 2 ^ p) (2 ^ k) _ _ z (pow_pos k) (omega (arith, here_value))
       (omega (arith, one, ap (λ (t : ℕ). 2 ^ k * t) halves))
 
   pub high_pattern : b - q % 2 ^ s + 2 ^ s ≤ (k + 2) * 2 ^ h

@@ -5,6 +5,7 @@ use native.Mathlib.Nat.{lt_trans, mul-lt-mul_of_pos_right, eq_of_mul-eq-mul_righ
 use native.Mathlib.Omega.{arith}
 use lib.Dec.{eqb}
 use lib.Pow.{pow_pos}
+use Rattle.std.proofs.Common.{Ordering, Less, Equal, Greater}
 use Rattle.patterns.specs.Format.{Format, infinity, sign_bit}
 use Rattle.patterns.specs.Value.{value}
 use Rattle.patterns.proofs.SignLaws.{infinity_below, plus_positive, minus_positive}
@@ -12,8 +13,8 @@ use Rattle.meaning.specs.Fraction.{Fraction, ◌≺◌, ◌≈◌, ◌⊕◌, wh
 use Rattle.meaning.specs.Pairs.{worth}
 use Rattle.truth.specs.Answers.{Answers}
 use Rattle.truth.proofs.AnswerLaws.{answers_eq}
-use Rattle.wholes.specs.Enclosure.{Lies, before, same, past, OnSide, below_half, at_half, above_half, Encloses}
-use Rattle.wholes.specs.declared.split.Side.{Side}
+use Rattle.wholes.specs.Enclosure.{OnSide, Encloses}
+use Rattle.wholes.proofs.DigitLaws.{Lies}
 
 module _ (o : ℕ) (positive : 0 < o) where
   -- The fraction v / o.
@@ -26,11 +27,11 @@ module _ (o : ℕ) (positive : 0 < o) where
   parts_whole : (n : ℕ) → parts (n * o) ≈ whole n
   parts_whole n = record { eq = omega arith }
 
-  parts_side : (n v : ℕ) {z : Side} → Lies (2 * v) ((2 * n + 1) * o) z → OnSide (parts v) (parts (n * o)) z
+  parts_side : (n v : ℕ) (z : Ordering) → Lies (2 * v) ((2 * n + 1) * o) z → OnSide (parts v) (parts (n * o)) z
   unfolding ◌⊕◌
-  parts_side n v (before l) = below_half (record { lt = omega (arith, mul-lt-mul_of_pos_right l positive) })
-  parts_side n v (same e) = at_half (record { eq = omega (arith, ap (λ (t : ℕ). t * o) e) })
-  parts_side n v (past l) = above_half (record { lt = omega (arith, mul-lt-mul_of_pos_right l positive) })
+  parts_side n v Less l = record { lt = omega (arith, mul-lt-mul_of_pos_right l positive) }
+  parts_side n v Equal e = record { eq = omega (arith, ap (λ (t : ℕ). t * o) e) }
+  parts_side n v Greater l = record { lt = omega (arith, mul-lt-mul_of_pos_right l positive) }
 
   parts_even : (n : ℕ) → Answers (Even (parts (n * o))) (eqb (n % 2) 0)
   parts_even n =
@@ -64,10 +65,10 @@ module _ (F : Format) where
     worth_high : worth F high ≡ units ((n + 1) * 2 ^ F.point)
     worth_high = worth_magnitude high_finite ∙ ap units highIs
 
-    pub encloses : {z : Side} → n * 2 ^ F.point < value F.frac b → value F.frac b < (n + 1) * 2 ^ F.point
+    pub encloses : (z : Ordering) → n * 2 ^ F.point < value F.frac b → value F.frac b < (n + 1) * 2 ^ F.point
         → Lies (2 * value F.frac b) ((2 * n + 1) * 2 ^ F.point) z
         → Encloses F b (record { low = low; high = high; side = z; even = eqb (n % 2) 0 })
-    encloses {z} less more lies = record {
+    encloses z less more lies = record {
       low_finite = low_finite;
       high_finite = high_finite;
       between = record {
@@ -77,6 +78,6 @@ module _ (F : Format) where
         above = subst₂ ◌≺◌ (sym worth_low) (sym (worth_magnitude here)) (parts_lt _ _ less);
         below = subst₂ ◌≺◌ (sym (worth_magnitude here)) (sym worth_high) (parts_lt _ _ more);
       };
-      on_side = subst₂ (λ (x l : Fraction). OnSide x l z) (sym (worth_magnitude here)) (sym worth_low) (parts_side _ _ n _ lies);
+      on_side = subst₂ (λ (x l : Fraction). OnSide x l z) (sym (worth_magnitude here)) (sym worth_low) (parts_side _ _ n _ z lies);
       parity = subst (λ (l : Fraction). Answers (Even l) (eqb (n % 2) 0)) (sym worth_low) (parts_even _ _ n);
     }

@@ -6,6 +6,7 @@ use native.Mathlib.Nat.{le_refl, mod-lt, mul-le-mul_right, lt_of_mul-lt-mul_righ
 use native.Mathlib.Omega.{arith}
 use lib.Dec.{eqb}
 use lib.Pow.{pow_pos, pow-add, split}
+use Rattle.std.proofs.Common.{Ordering, Less, Equal, Greater}
 use Rattle.patterns.specs.Format.{Format, infinity}
 use Rattle.patterns.specs.Value.{value}
 use Rattle.patterns.proofs.ValueLaws.{packed, pow_next, value_zero, value_positive, value_strict, value_mono}
@@ -13,9 +14,8 @@ use Rattle.meaning.specs.Fraction.{◌≈◌, whole, Whole}
 use Rattle.meaning.specs.Pairs.{worth}
 use Rattle.points.proofs.WholeLaws.{is_whole_lem}
 use Rattle.points.proofs.Naturals.{multiple_or_small}
-use Rattle.wholes.specs.Enclosure.{Lies, before, same, past, Encloses, HasDigits}
-use Rattle.wholes.specs.declared.split.Side.{Side}
-use Rattle.wholes.proofs.DigitLaws.{Cuts, low_value, high_value, here_value, rest_value, side_value, high_pattern}
+use Rattle.wholes.specs.Enclosure.{Encloses, HasDigits}
+use Rattle.wholes.proofs.DigitLaws.{Lies, Cuts, low_value, high_value, here_value, rest_value, side_value, high_pattern}
 use Rattle.wholes.proofs.EnclosureLaws.{natural, encloses}
 
 -- A magnitude that is worth n.
@@ -44,15 +44,15 @@ module _ (F : Format) {b k s q : ℕ} (c : Cuts F.frac F.point b k s q) where
   cut_whole : q % 2 ^ s ≡ 0 → Whole (worth F b)
   cut_whole e = whole_magnitude F (q / 2 ^ s) here (here_value c ∙ omega (arith, ap (λ (t : ℕ). t * 2 ^ k) e))
 
-  cut_between : {z : Side} → (q % 2 ^ s ≡ 0 → ⊥) → Lies (q % 2 ^ s) (2 ^ s / 2) z
+  cut_between : (z : Ordering) → (q % 2 ^ s ≡ 0 → ⊥) → Lies (q % 2 ^ s) (2 ^ s / 2) z
       → Encloses F b (record { low = b - q % 2 ^ s; high = b - q % 2 ^ s + 2 ^ s; side = z; even = eqb (q / 2 ^ s % 2) 0 })
-  cut_between some lies =
+  cut_between z some lies =
       encloses F (q / 2 ^ s) here
       (omega (arith, here)) (low_value c)
-      (omega (arith, high_pattern c, near)) (high_value c)
+      (omega (arith, high_pattern c, near)) (high_value c) z
       (omega (arith, here_value c, mul-pos {m = q % 2 ^ s} {n = 2 ^ k} (omega arith) (pow_pos k)))
       (omega (arith, here_value c, rest_value c))
-      (side_value c lies)
+      (side_value c z lies)
 
 module _ (F : Format) {b : ℕ} (d : HasDigits F b) where
   field_most : b / 2 ^ F.frac < F.point + 1
@@ -82,14 +82,14 @@ module _ (F : Format) {b : ℕ} (d : HasDigits F b) where
     pub digits_whole : (b % 2 ^ F.frac + 2 ^ F.frac) % u ≡ 0 → Whole (worth F b)
     digits_whole = subst (λ (u : ℕ). (b % 2 ^ F.frac + 2 ^ F.frac) % u ≡ 0 → Whole (worth F b)) (sym e) (cut_whole F digits_cut)
 
-    pub digits_between : {z : Side} → ((b % 2 ^ F.frac + 2 ^ F.frac) % u ≡ 0 → ⊥) → Lies ((b % 2 ^ F.frac + 2 ^ F.frac) % u) (u / 2) z
+    pub digits_between : (z : Ordering) → ((b % 2 ^ F.frac + 2 ^ F.frac) % u ≡ 0 → ⊥) → Lies ((b % 2 ^ F.frac + 2 ^ F.frac) % u) (u / 2) z
         → Encloses F b (record {
           low = b - (b % 2 ^ F.frac + 2 ^ F.frac) % u;
           high = b - (b % 2 ^ F.frac + 2 ^ F.frac) % u + u;
           side = z;
           even = eqb ((b % 2 ^ F.frac + 2 ^ F.frac) / u % 2) 0;
         })
-    digits_between {z} =
+    digits_between z =
         subst (λ (u : ℕ).
         ((b % 2 ^ F.frac + 2 ^ F.frac) % u ≡ 0 → ⊥) → Lies ((b % 2 ^ F.frac + 2 ^ F.frac) % u) (u / 2) z
         → Encloses F b (record {
@@ -97,7 +97,7 @@ module _ (F : Format) {b : ℕ} (d : HasDigits F b) where
           high = b - (b % 2 ^ F.frac + 2 ^ F.frac) % u + u;
           side = z;
           even = eqb ((b % 2 ^ F.frac + 2 ^ F.frac) / u % 2) 0;
-        })) (sym e) (cut_between F digits_cut)
+        })) (sym e) (cut_between F digits_cut z)
 
 pub one_finite : (F : Format) → (F.point - F.frac + 1) * 2 ^ F.frac < infinity F
 unfolding infinity
@@ -137,16 +137,16 @@ module _ (F : Format) (fine : F.frac + 1 ≤ F.point) where
         two-pow-succ (F.point - 1),
       )
 
-  side_half : {b : ℕ} {z : Side} → Lies b ((F.point - F.frac) * 2 ^ F.frac) z
+  side_half : (b : ℕ) (z : Ordering) → Lies b ((F.point - F.frac) * 2 ^ F.frac) z
       → Lies (2 * value F.frac b) ((2 * 0 + 1) * 2 ^ F.point) z
-  side_half (before l) = before (omega (arith, value_strict F.frac l, half_value))
-  side_half (same e) = same (omega (arith, ap (value F.frac) e, half_value))
-  side_half (past l) = past (omega (arith, value_strict F.frac l, half_value))
+  side_half b Less l = omega (arith, value_strict F.frac l, half_value)
+  side_half b Equal e = omega (arith, ap (value F.frac) e, half_value)
+  side_half b Greater l = omega (arith, value_strict F.frac l, half_value)
 
   -- The neighbours of a magnitude below 1 are 0 and 1.
-  pub small_between : {b : ℕ} {z : Side} → b < infinity F → 0 < b → b < (F.point - F.frac + 1) * 2 ^ F.frac
+  pub small_between : {b : ℕ} (z : Ordering) → b < infinity F → 0 < b → b < (F.point - F.frac + 1) * 2 ^ F.frac
       → Lies b ((F.point - F.frac) * 2 ^ F.frac) z
       → Encloses F b (record { low = 0; high = (F.point - F.frac + 1) * 2 ^ F.frac; side = z; even = eqb (0 % 2) 0 })
-  small_between f some less lies =
-      encloses F 0 f (omega arith) (value_zero F.frac ∙ omega arith) (one_finite F) (one_value ∙ omega arith)
-      (omega (arith, value_positive F.frac some)) (omega (arith, value_strict F.frac less, one_value)) (side_half lies)
+  small_between z f some less lies =
+      encloses F 0 f (omega arith) (value_zero F.frac ∙ omega arith) (one_finite F) (one_value ∙ omega arith) z
+      (omega (arith, value_positive F.frac some)) (omega (arith, value_strict F.frac less, one_value)) (side_half _ z lies)

@@ -1,24 +1,16 @@
 -- A magnitude between two whole numbers.
-use Rattle.std.specs.Prelude.{◌≡◌, ℕ, ◌+◌, ◌-◌, ◌*◌, ◌^◌, ◌<◌, ◌≤◌}
+use Rattle.std.specs.Prelude.{ℕ, ◌+◌, ◌-◌, ◌*◌, ◌^◌, ◌<◌, ◌≤◌, Option, MatchOption}
+use Rattle.std.specs.declared.cmp.Ordering.{Ordering}
+use Rattle.std.specs.Ordering.{MatchOrdering}
 use Rattle.patterns.specs.Format.{Format, infinity}
 use Rattle.meaning.specs.Fraction.{Fraction, ◌≺◌, ◌≈◌, ◌⊕◌, whole, half, Whole, Even}
 use Rattle.meaning.specs.Pairs.{worth}
 use Rattle.truth.specs.Answers.{Answers}
-use Rattle.wholes.specs.declared.split.Side.{Side}
 use Rattle.wholes.specs.declared.split.Neighbours.{Neighbours}
-use Rattle.wholes.specs.declared.split.Parts.{Parts}
-
--- How a number compares with a middle.
-pub data Lies (at middle : ℕ) : Side → Type 0 where
-  before : at < middle → Lies at middle Side.Low
-  same : at ≡ middle → Lies at middle Side.Middle
-  past : middle < at → Lies at middle Side.High
 
 -- How x compares with one half more than l.
-pub data OnSide (x l : Fraction) : Side → Type 0 where
-  below_half : x ≺ l ⊕ half → OnSide x l Side.Low
-  at_half : x ≈ l ⊕ half → OnSide x l Side.Middle
-  above_half : l ⊕ half ≺ x → OnSide x l Side.High
+abbrev pub OnSide : Fraction → Fraction → Ordering → Type 0
+OnSide x l z = MatchOrdering z (x ≺ l ⊕ half) (x ≈ l ⊕ half) (l ⊕ half ≺ x)
 
 -- x lies between l and u, which are the whole numbers n and n + 1.
 pub record Straddles (l u x : Fraction) : Type 0 where
@@ -37,9 +29,8 @@ pub record Encloses (F : Format) (b : ℕ) (x : Neighbours) : Type 0 where
   pub parity : Answers (Even (worth F x.low)) x.even
 
 -- The magnitude b is a whole number, or lies between two.
-pub data PartsOf (F : Format) (b : ℕ) : Parts → Type 0 where
-  is_whole : Whole (worth F b) → PartsOf F b Parts.Whole
-  is_between : {x : Neighbours} → Encloses F b x → PartsOf F b (Parts.Between x)
+abbrev pub SplitOf : Format → ℕ → Option Neighbours → Type 0
+SplitOf F b o = MatchOption o (Whole (worth F b)) (Encloses F b)
 
 -- A magnitude from 1 on whose last digit is worth less than 1.
 pub record HasDigits (F : Format) (b : ℕ) : Type 0 where

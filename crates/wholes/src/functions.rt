@@ -9,7 +9,7 @@ ghost use Rattle.truth.specs.Answers.{Answers};
 ghost use Rattle.wholes.specs.Made.{operation, Made, MadeMagnitude, NegativeOf};
 
 use crate::magnitudes::{downward, nearest, nearest_even, sign_of, upward};
-use crate::split::{Parts, Side, split};
+use crate::split::split;
 use end_pairs::SIGN;
 
 #[derive(Clone, Copy)]
@@ -29,10 +29,7 @@ pub fn mirrored(f: Function) -> Function
     match f {
         Function::Ceil => Function::Floor,
         Function::Floor => Function::Ceil,
-        Function::Round => Function::Round,
-        Function::RoundTiesEven => Function::RoundTiesEven,
-        Function::Sign => Function::Sign,
-        Function::Trunc => Function::Trunc,
+        Function::Round | Function::RoundTiesEven | Function::Sign | Function::Trunc => f,
     }
 }
 
@@ -42,11 +39,10 @@ fn value_at_magnitude(f: Function, m: u64) -> u64
 {
     match f {
         Function::Ceil => upward(m),
-        Function::Floor => downward(m),
+        Function::Floor | Function::Trunc => downward(m),
         Function::Round => nearest(m),
         Function::RoundTiesEven => nearest_even(m),
         Function::Sign => sign_of(m),
-        Function::Trunc => downward(m),
     }
 }
 
@@ -77,15 +73,5 @@ pub fn has_half(b: u64) -> bool
     requires { Finite binary64 b }
     ensures { Answers (Whole (worth binary64 b ⊕ half)) result }
 {
-    match split(b % SIGN) {
-        Parts::Whole => false,
-        Parts::Between(n) => {
-            let side = n.side;
-            match side {
-                Side::Low => false,
-                Side::Middle => true,
-                Side::High => false,
-            }
-        }
-    }
+    split(b % SIGN).is_some_and(|n| n.side.is_eq())
 }

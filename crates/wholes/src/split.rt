@@ -1,9 +1,10 @@
 // The whole numbers next to a magnitude.
 ghost use Rattle.std.specs.Prelude.{◌<◌};
 ghost use Rattle.patterns.specs.Format.{binary64, infinity};
-ghost use Rattle.wholes.specs.Enclosure.{Lies, PartsOf, HasDigits};
+ghost use Rattle.wholes.specs.Enclosure.{SplitOf, HasDigits};
 
 use patterns::FRACTION;
+use std::cmp::Ordering;
 
 // The digit in front of the fraction of a normal number.
 const HIDDEN: u64 = 0x0010_0000_0000_0000;
@@ -16,80 +17,53 @@ pub const ONE: u64 = 0x3ff0_0000_0000_0000;
 // The pattern of 1/2.
 const HALF: u64 = 0x3fe0_0000_0000_0000;
 
-// Which neighbour a magnitude is nearer to.
-#[derive(Clone, Copy)]
-pub enum Side {
-    Low,
-    Middle,
-    High,
-}
-
-// The whole numbers next to a magnitude, as patterns, and whether the lower one is even.
+// The whole numbers next to a magnitude, as patterns, how it compares with their middle, and whether the lower one is even.
 #[derive(Clone, Copy)]
 pub struct Neighbours {
     pub low: u64,
     pub high: u64,
-    pub side: Side,
+    pub side: Ordering,
     pub even: bool,
 }
 
-// A magnitude is a whole number, or between two.
-#[derive(Clone, Copy)]
-pub enum Parts {
-    Whole,
-    Between(Neighbours),
-}
-
-fn side_of(at: u64, middle: u64) -> Side
-    ensures { Lies at middle result }
-{
-    if at < middle {
-        return Side::Low;
-    }
-    if at == middle {
-        return Side::Middle;
-    }
-    Side::High
-}
-
 // A magnitude from 1 on that may have digits after the point. Adding a unit to the pattern carries into the exponent.
-fn split_digits(b: u64) -> Parts
+fn split_digits(b: u64) -> Option<Neighbours>
     requires { HasDigits binary64 b }
-    ensures { PartsOf binary64 b result }
+    ensures { SplitOf binary64 b result }
 {
     let unit = 1u64 << (FIELD_OF_ONES - (b >> FRACTION));
     let significand = b % HIDDEN + HIDDEN;
     let rest = significand % unit;
     if rest == 0 {
-        return Parts::Whole;
+        return None;
     }
     let low = b - rest;
-    Parts::Between(Neighbours {
+    Some(Neighbours {
         low,
         high: low + unit,
-        side: side_of(rest, unit / 2),
+        side: rest.cmp(&(unit / 2)),
         even: significand / unit % 2 == 0,
     })
 }
 
-// The whole numbers next to a magnitude that is none itself.
-pub fn split(b: u64) -> Parts
+// The whole numbers next to a magnitude, or none where it is whole itself.
+pub fn split(b: u64) -> Option<Neighbours>
     requires { b < infinity binary64 }
-    ensures { PartsOf binary64 b result }
+    ensures { SplitOf binary64 b result }
 {
     if b == 0 {
-        return Parts::Whole;
+        return None;
     }
     if b < ONE {
-        return Parts::Between(Neighbours {
+        return Some(Neighbours {
             low: 0,
             high: ONE,
-            side: side_of(b, HALF),
+            side: b.cmp(&HALF),
             even: true,
         });
     }
     if b < ALL_WHOLE {
         return split_digits(b);
     }
-    Parts::Whole
+    None
 }

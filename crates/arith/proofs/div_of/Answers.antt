@@ -12,18 +12,12 @@ pub returns-then-either_empty : goal.returns-then-either_empty
 unfolding infinity minus_infinity sign_bit
 returns-then-either_empty c = empty_hull₂ binary64 div _ _ (said_yes c.either_empty.ensures c.if-either_empty.true)
 
-pub classify-k-requires : goal.classify-k-requires
-classify-k-requires c = c.requires.1
-
 pub returns-then-is_zero : goal.returns-then-is_zero
 unfolding infinity minus_infinity sign_bit
 returns-then-is_zero c =
     hull_nothing binary64
     (no_quotient binary64 _ _ (neither_empty binary64 c.requires (said_no c.either_empty.ensures c.if-either_empty.false))
     c.classify-k.ensures (sym c.is_zero.ensures ∙ c.if-is_zero.true))
-
-pub classify-requires : goal.classify-requires
-classify-requires c = c.requires.0
 
 pub quotient_at-requires : goal.quotient_at-requires
 quotient_at-requires c =

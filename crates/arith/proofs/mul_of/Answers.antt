@@ -11,12 +11,6 @@ pub returns-then-either_empty : goal.returns-then-either_empty
 unfolding infinity minus_infinity sign_bit
 returns-then-either_empty c = empty_hull₂ binary64 mul _ _ (said_yes c.either_empty.ensures c.if-either_empty.true)
 
-pub classify-requires : goal.classify-requires
-classify-requires c = c.requires.0
-
-pub classify-requires-2 : goal.classify-requires-2
-classify-requires-2 c = c.requires.1
-
 pub returns : goal.returns
 returns c =
     hull_between binary64 c.outward.ensures

@@ -1,48 +1,57 @@
--- `classify::classify` meets its contract: the tests on the keys of the ends are the signs of their values.
+-- `classify::classify` meets its contract: the comparisons of the keys of the ends are the signs of their values.
 use native.Mathlib.Omega.{arith}
 use Rattle.patterns.specs.Format.{binary64, sign_bit}
-use Rattle.meaning.specs.Pairs.{EmptyPair, set_of}
-use Rattle.end_pairs.specs.EndPairMeaning.{pair_of}
 use Rattle.truth.proofs.AnswerLaws.{said_yes, said_no}
-use Rattle.end_pairs.proofs.Shapes.{Shape, shape, answers_nothing}
+use Rattle.end_pairs.proofs.Shapes.{shape, answers_nothing}
 use Rattle.classify.proofs.ClassLaws.{class_empty, class_p1_lem, class_n1_lem, class_n0_lem, class_m_lem, class_z_lem, class_p0_lem}
-use Rattle.classify.proofs.classify.Goals.{After-key-b}
+use Rattle.classify.proofs.CompareLaws.{less_so, equal_so, greater_so}
 use Rattle.classify.proofs.classify.Goals as goal
-
--- What is known once both keys are.
-seen : (k : After-key-b) → let x = pair_of k.args.x in Shape binary64 x (set_of binary64 x)
-seen k = shape binary64 _ k.requires
-
-some : (k : After-key-b) → EmptyPair binary64 (pair_of k.args.x) → ⊥
-some k = said_no k.is_empty_pair.ensures k.if-is_empty_pair.false
 
 pub returns-then-is_empty_pair : goal.returns-then-is_empty_pair
 returns-then-is_empty_pair c = class_empty (said_yes (answers_nothing binary64 _ c.requires c.is_empty_pair.ensures) c.if-is_empty_pair.true)
 
-pub returns-then-a-gt-ZERO : goal.returns-then-a-gt-ZERO
+pub returns-in-Greater-default : goal.returns-in-Greater-default
 unfolding sign_bit
-returns-then-a-gt-ZERO c = class_p1_lem binary64 (some (goal.at.returns-then-a-gt-ZERO c).After-key-b) (seen (goal.at.returns-then-a-gt-ZERO c).After-key-b) (omega (arith, c.key-a.ensures))
+returns-in-Greater-default c =
+    let a = greater_so c.key.result _ c.in-Greater-default.ensures in
+    class_p1_lem binary64 (said_no c.is_empty_pair.ensures c.if-is_empty_pair.false) (shape binary64 _ c.requires) (omega (arith, c.key.ensures))
 
-pub returns-then-b-lt-ZERO : goal.returns-then-b-lt-ZERO
+pub returns-in-Less-Equal : goal.returns-in-Less-Equal
 unfolding sign_bit
-returns-then-b-lt-ZERO c = class_n1_lem binary64 (some (goal.at.returns-then-b-lt-ZERO c).After-key-b) (seen (goal.at.returns-then-b-lt-ZERO c).After-key-b) (omega (arith, c.key-b.ensures))
+returns-in-Less-Equal c =
+    let a = less_so c.key.result _ c.in-Less-Equal.ensures in
+    let b = equal_so c.key-2.result _ c.in-Less-Equal.ensures' in
+    class_n0_lem binary64 (said_no c.is_empty_pair.ensures c.if-is_empty_pair.false) (shape binary64 _ c.requires) (omega (arith, c.key.ensures)) (omega (arith, c.key-2.ensures))
 
-pub returns-then-b : goal.returns-then-b
+pub returns-in-Less-Greater : goal.returns-in-Less-Greater
 unfolding sign_bit
-returns-then-b c =
-    class_n0_lem binary64 (some (goal.at.returns-then-b c).After-key-b) (seen (goal.at.returns-then-b c).After-key-b) (omega (arith, c.key-a.ensures)) (omega (arith, c.key-b.ensures))
+returns-in-Less-Greater c =
+    let a = less_so c.key.result _ c.in-Less-Greater.ensures in
+    let b = greater_so c.key-2.result _ c.in-Less-Greater.ensures' in
+    class_m_lem binary64 (said_no c.is_empty_pair.ensures c.if-is_empty_pair.false) (shape binary64 _ c.requires) (omega (arith, c.key.ensures)) (omega (arith, c.key-2.ensures))
 
-pub returns-then-a-lt-ZERO : goal.returns-then-a-lt-ZERO
+pub returns-in-Equal-Equal : goal.returns-in-Equal-Equal
 unfolding sign_bit
-returns-then-a-lt-ZERO c =
-    class_m_lem binary64 (some (goal.at.returns-then-a-lt-ZERO c).After-key-b) (seen (goal.at.returns-then-a-lt-ZERO c).After-key-b) (omega (arith, c.key-a.ensures)) (omega (arith, c.key-b.ensures, c.if-b.false))
+returns-in-Equal-Equal c =
+    let a = equal_so c.key.result _ c.in-Equal-Equal.ensures in
+    let b = equal_so c.key-2.result _ c.in-Equal-Equal.ensures' in
+    class_z_lem binary64 (said_no c.is_empty_pair.ensures c.if-is_empty_pair.false) (shape binary64 _ c.requires) (omega (arith, c.key.ensures)) (omega (arith, c.key-2.ensures))
 
-pub returns-then-b-2 : goal.returns-then-b-2
+pub returns-in-Equal-Greater : goal.returns-in-Equal-Greater
 unfolding sign_bit
-returns-then-b-2 c =
-    class_z_lem binary64 (some (goal.at.returns-then-b-2 c).After-key-b) (seen (goal.at.returns-then-b-2 c).After-key-b) (omega (arith, c.key-a.ensures)) (omega (arith, c.key-b.ensures))
+returns-in-Equal-Greater c =
+    let a = equal_so c.key.result _ c.in-Equal-Greater.ensures in
+    let b = greater_so c.key-2.result _ c.in-Equal-Greater.ensures' in
+    class_p0_lem binary64 (said_no c.is_empty_pair.ensures c.if-is_empty_pair.false) (shape binary64 _ c.requires) (omega (arith, c.key.ensures)) (omega (arith, c.key-2.ensures))
 
-pub returns : goal.returns
+pub returns-in-Less-Less : goal.returns-in-Less-Less
 unfolding sign_bit
-returns c =
-    class_p0_lem binary64 (some (goal.at.returns c).After-key-b) (seen (goal.at.returns c).After-key-b) (omega (arith, c.key-a.ensures)) (omega (arith, c.key-b.ensures, c.if-b-2.false))
+returns-in-Less-Less c =
+    let b = less_so c.key-2.result _ c.in-Less-Less.ensures' in
+    class_n1_lem binary64 (said_no c.is_empty_pair.ensures c.if-is_empty_pair.false) (shape binary64 _ c.requires) (omega (arith, c.key-2.ensures))
+
+pub returns-in-Equal-Less : goal.returns-in-Equal-Less
+unfolding sign_bit
+returns-in-Equal-Less c =
+    let b = less_so c.key-2.result _ c.in-Equal-Less.ensures' in
+    class_n1_lem binary64 (said_no c.is_empty_pair.ensures c.if-is_empty_pair.false) (shape binary64 _ c.requires) (omega (arith, c.key-2.ensures))

@@ -3,6 +3,7 @@ use mathlib.Core.Path.{◌∙◌, ap₂}
 use mathlib.Core.List.{[], ◌∷◌, ◌++◌}
 use Prim.Native.Nat.{ℕ}
 use lib.ListN.{length-set}
+use Rattle.std.proofs.Common.{rules}
 use Rattle.meaning.specs.Bytes.{big_endian, write_pair}
 use Rattle.exact_operations.specs.ExactIntervals.{exact_pair_of}
 use Rattle.ends_in_bytes.proofs.EightByteLaws.{length_pair}
@@ -17,6 +18,6 @@ bounds-output-17 c =
 pub returns : goal.returns
 returns c =
     let z = exact_pair_of c.args.z in
-    last_two_bytes 16 (write_pair big_endian z.pair) c.args.output.now c.flag_byte.result c.flag_byte-2.result
+    last_two_bytes 16 (write_pair big_endian z.pair) c.args.output.now c.from.result c.from-2.result
     (length_pair big_endian z.pair) c.requires c.write_ends.ensures
-    ∙ ap₂ (λ (s t : ℕ). write_pair big_endian z.pair ++ s ∷ t ∷ []) c.flag_byte.ensures c.flag_byte-2.ensures
+    ∙ ap₂ (λ (s t : ℕ). write_pair big_endian z.pair ++ s ∷ t ∷ []) (search rules) (search rules)

@@ -1,14 +1,10 @@
 -- `compare` meets its contract: what is found wrong is refused, and sound operands are compared.
-use Rattle.interval.proofs.StatementLaws.{sound₂, given₂, refused₂, sound_bare}
+use Rattle.operation_steps.proofs.TwoLaws.{given₂, refused₂}
 use Rattle.judged.proofs.compare.Goals as goal
 
-pub compares-requires : goal.compares-requires
-compares-requires c =
-    let (x, y) = sound₂ c.judge_two.ensures c.in-Sound.is in
-    (sound_bare x, sound_bare y)
+pub returns-in_err-judge_two : goal.returns-in_err-judge_two
+returns-in_err-judge_two g c =
+    refused₂ c.judge_two.ensures (λ answer. answer) c.from_residual.result c.in_err-judge_two.was c.from_residual.ensures.1
 
-pub returns-in-Sound : goal.returns-in-Sound
-returns-in-Sound c = given₂ c.judge_two.ensures c.in-Sound.is c.compares.ensures
-
-pub returns-in-Refused : goal.returns-in-Refused
-returns-in-Refused c = refused₂ c.judge_two.ensures c.in-Refused.is
+pub returns : goal.returns
+returns g c = given₂ c.judge_two.ensures c.in_ok-judge_two.was c.compares.ensures

@@ -39,5 +39,5 @@ returns c =
     product_reached binary64 a b
     (reached_signed binary64 (xor (ltb a (2 ^ 63)) (ltb b (2 ^ 63)))
     (c.is_representable.ensures binary64 refl refl (x * y) (2 ^ 1074) (pow_pos 1074)
-    (product_worth 52 1074 1178 m.result.exponent n.result.exponent m.result.significand n.result.significand x y refl m.ensures.worth n.ensures.worth
+    (product_worth 52 1074 1178 m.result.exponent n.result.exponent m.result.significand n.result.significand x y refl m.ensures n.ensures
     c.product.ensures.brackets)))

@@ -40,5 +40,5 @@ returns c =
     product_up binary64 a b
     (subst (λ (s : Bool). Up binary64 (signed s (x * y) (2 ^ 1074)) c.round_up.result) c.differ.ensures
     (c.round_up.ensures (x * y) (2 ^ 1074) (pow_pos 1074)
-    (product_worth 52 1074 1178 m.result.exponent n.result.exponent m.result.significand n.result.significand x y refl m.ensures.worth n.ensures.worth
+    (product_worth 52 1074 1178 m.result.exponent n.result.exponent m.result.significand n.result.significand x y refl m.ensures n.ensures
     c.product.ensures.brackets)))

@@ -38,5 +38,5 @@ returns c =
     quotient_reached binary64 a b
     (reached_signed binary64 (xor (ltb a (2 ^ 63)) (ltb b (2 ^ 63)))
     (c.is_representable.ensures binary64 refl refl (x * 2 ^ 1074) y some
-    (quotient_worth 52 1074 m.result.exponent n.result.exponent m.result.significand n.result.significand x (omega (arith, n.ensures.full.least)) some m.ensures.worth n.ensures.worth
+    (quotient_worth 52 1074 m.result.exponent n.result.exponent m.result.significand n.result.significand x (omega (arith, n.result.full.least)) some m.ensures n.ensures
     c.quotient.ensures.brackets)))

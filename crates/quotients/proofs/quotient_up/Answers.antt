@@ -39,5 +39,5 @@ returns c =
     quotient_up binary64 a b
     (subst (λ (s : Bool). Up binary64 (signed s (x * 2 ^ 1074) y) c.round_up.result) c.differ.ensures
     (c.round_up.ensures (x * 2 ^ 1074) y some
-    (quotient_worth 52 1074 m.result.exponent n.result.exponent m.result.significand n.result.significand x (omega (arith, n.ensures.full.least)) some m.ensures.worth n.ensures.worth
+    (quotient_worth 52 1074 m.result.exponent n.result.exponent m.result.significand n.result.significand x (omega (arith, n.result.full.least)) some m.ensures n.ensures
     c.quotient.ensures.brackets)))

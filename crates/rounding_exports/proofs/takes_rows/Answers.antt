@@ -14,12 +14,11 @@ one_more P k before here =
     answers_iff (λ both. below_more P k both.0 both.1) (λ all. (λ j less. all j (omega arith), all k (omega arith))) (answers_and before here)
 
 pub loop-k-init : goal.loop-k-init
-loop-k-init c = (omega arith, affirmed (below_none _))
+loop-k-init c = affirmed (below_none _)
 
 pub loop-k-preserved : goal.loop-k-preserved
-loop-k-preserved c = (omega arith, one_more _ _ c.loop-k.invariant.1 c.takes-all.ensures)
+loop-k-preserved c = one_more _ _ c.loop-k.invariant c.takes-all.ensures
 
 pub returns : goal.returns
 returns c =
-    let (within, all) = c.loop-k.invariant in
-    answers_iff (λ before k less. before k (omega arith)) (λ every k less. every k (omega arith)) all
+    answers_iff (λ before k less. before k (omega arith)) (λ every k less. every k (omega arith)) c.loop-k.invariant

@@ -1,20 +1,23 @@
--- `sums::is_exact_sum` meets its contract: the two are given in order, which does not matter to their sum.
-use native.Mathlib.Nat.{le_of_lt}
+-- `sums::is_exact_sum` meets its contract: a sum is a double if its magnitude is one's, and the order of the two does not matter.
+use mathlib.Core.Bool.{not}
+use mathlib.Core.Path.{refl}
+use Prim.Native.Nat.{ℕ, ◌^◌}
+use lib.Dec.{lit<, ltb}
+use Rattle.truth.specs.Answers.{Answers}
 use Rattle.patterns.specs.Format.{binary64, sign_bit}
+use Rattle.patterns.specs.Rounding.{Reached, sum_of}
 use Rattle.patterns.specs.Value.{magnitude}
-use Rattle.sums.proofs.SignedSums.{reached_swap}
+use Rattle.significands.proofs.Signs.{reached_signed}
+use Rattle.sums.proofs.SignedSums.{either_order, reached_swap, sum_reached}
 use Rattle.sums.proofs.is_exact_sum.Goals as goal
 
-pub ordered_is_exact-requires : goal.ordered_is_exact-requires
-unfolding magnitude sign_bit
-ordered_is_exact-requires c = (c.requires.1, le_of_lt c.if-a-b.true)
-
-pub returns-then-a-b : goal.returns-then-a-b
-returns-then-a-b c = reached_swap binary64 _ _ c.ordered_is_exact.ensures
-
-pub ordered_is_exact-requires-2 : goal.ordered_is_exact-requires-2
-unfolding magnitude sign_bit
-ordered_is_exact-requires-2 c = (c.requires.0, c.if-a-b.false)
-
 pub returns : goal.returns
-returns c = c.ordered_is_exact-2.ensures
+unfolding sign_bit
+returns c =
+    let a = c.args.a in
+    let b = c.args.b in
+    let terms = c.new.result in
+    either_order (λ (great small : ℕ). Answers (Reached binary64 (sum_of binary64 great small)) c.is_representable.result) (magnitude binary64 a) (magnitude binary64 b) a b
+    (reached_swap binary64 a b) c.new.ensures.kept c.new.ensures.swapped
+    (sum_reached binary64 terms.great terms.small terms.ordered
+    (reached_signed binary64 (not (ltb terms.great (2 ^ 63))) (c.is_representable.ensures binary64 refl refl _ 1 (lit< tt) c.combined.ensures.brackets)))

@@ -11,12 +11,6 @@ use Rattle.arith.proofs.exact.product_exactness.Goals as goal
 pub returns-then-either_empty : goal.returns-then-either_empty
 returns-then-either_empty c z = exact_nothing binary64 (no_results (empty_none₂ binary64 mul _ _ (said_yes c.either_empty.ensures c.if-either_empty.true)))
 
-pub classify-requires : goal.classify-requires
-classify-requires c = c.requires.0
-
-pub classify-requires-2 : goal.classify-requires-2
-classify-requires-2 c = c.requires.1
-
 pub returns : goal.returns
 returns c z =
     exact_between binary64

@@ -12,17 +12,11 @@ use Rattle.arith.proofs.exact.quotient_exactness.Goals as goal
 pub returns-then-either_empty : goal.returns-then-either_empty
 returns-then-either_empty c z = exact_nothing binary64 (no_results (empty_none₂ binary64 div _ _ (said_yes c.either_empty.ensures c.if-either_empty.true)))
 
-pub classify-k-requires : goal.classify-k-requires
-classify-k-requires c = c.requires.1
-
 pub returns-then-is_zero : goal.returns-then-is_zero
 returns-then-is_zero c z =
     exact_nothing binary64
     (no_quotient binary64 _ _ (neither_empty binary64 c.requires (said_no c.either_empty.ensures c.if-either_empty.false))
     c.classify-k.ensures (sym c.is_zero.ensures ∙ c.if-is_zero.true))
-
-pub classify-requires : goal.classify-requires
-classify-requires c = c.requires.0
 
 pub quotient_is_exact_at-requires : goal.quotient_is_exact_at-requires
 quotient_is_exact_at-requires c =

@@ -24,7 +24,7 @@ returns-then-is_finite c =
     (said_no c.both_finite.ensures c.if-both_finite.false)
     (said_yes c.is_finite.ensures c.if-is_finite.true)
 
-pub returns : goal.returns
+pub returns-else-is_finite : goal.returns-else-is_finite
 unfolding infinity sign_bit
-returns c =
+returns-else-is_finite c =
     first_infinite binary64 quotient_end (λ y. refl) _ (search rules) (said_no c.is_finite.ensures c.if-is_finite.false)

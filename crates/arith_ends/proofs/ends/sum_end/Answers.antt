@@ -8,16 +8,13 @@ use Rattle.truth.proofs.AnswerLaws.{said_yes, said_no}
 use Rattle.arith_ends.proofs.EndLaws.{numbers, either_infinite}
 use Rattle.arith_ends.proofs.ends.sum_end.Goals as goal
 
-pub sum_up-requires : goal.sum_up-requires
-sum_up-requires c = said_yes c.both_finite.ensures c.if-both_finite.true
-
 pub returns-then-both_finite : goal.returns-then-both_finite
 returns-then-both_finite c =
     numbers binary64 sum_end (λ y. refl) (said_yes c.both_finite.ensures c.if-both_finite.true)
     (up_end binary64 (sum_units binary64 _ _) c.sum_up.ensures)
 
-pub returns : goal.returns
+pub returns-else-both_finite : goal.returns-else-both_finite
 unfolding infinity sign_bit
-returns c =
+returns-else-both_finite c =
     either_infinite binary64 sum_end (λ y. refl) (λ x. refl) (search rules) (search rules)
     (said_no c.both_finite.ensures c.if-both_finite.false)

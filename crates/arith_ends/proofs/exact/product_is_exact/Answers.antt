@@ -8,15 +8,13 @@ use Rattle.truth.proofs.AnswerLaws.{said_yes, said_no}
 use Rattle.arith_ends.proofs.EndLaws.{exact_numbers, exact_infinite, infinite_exact}
 use Rattle.arith_ends.proofs.exact.product_is_exact.Goals as goal
 
-pub is_exact_product-requires : goal.is_exact_product-requires
-is_exact_product-requires c = said_yes c.both_finite.ensures c.if-both_finite.true
-
-pub returns-then-both_finite : goal.returns-then-both_finite
-returns-then-both_finite c =
-    exact_numbers binary64 product_end (λ y. refl) (said_yes c.both_finite.ensures c.if-both_finite.true)
+pub returns-else-not-both_finite : goal.returns-else-not-both_finite
+returns-else-not-both_finite c =
+    exact_numbers binary64 product_end (λ y. refl) (said_yes c.both_finite.ensures c.if-not-both_finite.false)
     (format_end binary64 (product_units binary64 _ _) c.is_exact_product.ensures)
 
-pub returns : goal.returns
+pub returns-then-not-both_finite : goal.returns-then-not-both_finite
 unfolding sign_bit
-returns c =
-    exact_infinite binary64 product_end (λ y. refl) (λ x. refl) (infinite_exact binary64) (search rules) (search rules) (said_no c.both_finite.ensures c.if-both_finite.false)
+returns-then-not-both_finite c =
+    rw c.if-not-both_finite.true
+    (exact_infinite binary64 product_end (λ y. refl) (λ x. refl) (infinite_exact binary64) (search rules) (search rules) (said_no c.both_finite.ensures c.if-not-both_finite.true))

@@ -2,22 +2,13 @@
 use Rattle.patterns.specs.Format.{binary64, infinity}
 use Rattle.points.proofs.Exactly.{exact_infinity}
 use Rattle.arith_ends.proofs.EndLaws.{zero_end}
+use Rattle.arith_ends.proofs.GreaterLaws.{greater_rounded}
 use Rattle.arith_ends.proofs.product.product_at.Goals as goal
 
-pub returns-in-LowerLower : goal.returns-in-LowerLower
-returns-in-LowerLower c = rw c.in-LowerLower.is c.product_end.ensures
-
-pub returns-in-LowerUpper : goal.returns-in-LowerUpper
-returns-in-LowerUpper c = rw c.in-LowerUpper.is c.product_end-in-LowerUpper.ensures
-
-pub returns-in-UpperLower : goal.returns-in-UpperLower
-returns-in-UpperLower c = rw c.in-UpperLower.is c.product_end-in-UpperLower.ensures
-
-pub returns-in-UpperUpper : goal.returns-in-UpperUpper
-returns-in-UpperUpper c = rw c.in-UpperUpper.is c.product_end-in-UpperUpper.ensures
-
 pub returns-in-Greater : goal.returns-in-Greater
-returns-in-Greater c = rw c.in-Greater.is c.greater_product.ensures
+returns-in-Greater c =
+    rw c.in-Greater.is
+    (greater_rounded binary64 c.product_end-in-Greater.ensures c.product_end-in-Greater-2.ensures c.greater.ensures)
 
 pub returns-in-Zero : goal.returns-in-Zero
 returns-in-Zero c = rw c.in-Zero.is (zero_end binary64)

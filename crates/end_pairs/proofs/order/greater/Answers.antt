@@ -7,5 +7,5 @@ use Rattle.end_pairs.proofs.order.greater.Goals as goal
 pub returns-then-less_or_equal : goal.returns-then-less_or_equal
 returns-then-less_or_equal c = greater_is_second (said_yes c.less_or_equal.ensures c.if-less_or_equal.true)
 
-pub returns : goal.returns
-returns c = greater_is_first (not_le (said_no c.less_or_equal.ensures c.if-less_or_equal.false))
+pub returns-else-less_or_equal : goal.returns-else-less_or_equal
+returns-else-less_or_equal c = greater_is_first (not_le (said_no c.less_or_equal.ensures c.if-less_or_equal.false))

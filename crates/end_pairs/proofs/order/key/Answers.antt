@@ -9,6 +9,6 @@ pub returns-then-b-lt-SIGN : goal.returns-then-b-lt-SIGN
 unfolding sign_bit
 returns-then-b-lt-SIGN c = sym (key_below binary64 c.if-b-lt-SIGN.true)
 
-pub returns : goal.returns
+pub returns-else-b-lt-SIGN : goal.returns-else-b-lt-SIGN
 unfolding sign_bit
-returns c = omega (arith, key_above binary64 c.if-b-lt-SIGN.false)
+returns-else-b-lt-SIGN c = omega (arith, key_above binary64 c.if-b-lt-SIGN.false)

@@ -7,5 +7,5 @@ use Rattle.end_pairs.proofs.order.lesser.Goals as goal
 pub returns-then-less_or_equal : goal.returns-then-less_or_equal
 returns-then-less_or_equal c = lesser_is_first (said_yes c.less_or_equal.ensures c.if-less_or_equal.true)
 
-pub returns : goal.returns
-returns c = lesser_is_second (not_le (said_no c.less_or_equal.ensures c.if-less_or_equal.false))
+pub returns-else-less_or_equal : goal.returns-else-less_or_equal
+returns-else-less_or_equal c = lesser_is_second (not_le (said_no c.less_or_equal.ensures c.if-less_or_equal.false))

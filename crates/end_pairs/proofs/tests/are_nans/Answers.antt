@@ -1,12 +1,11 @@
--- `tests::are_nans` meets its contract: each end is tested.
+-- `tests::are_nans` meets its contract: both ends are compared.
 use Rattle.patterns.specs.Format.{infinity, quiet_nan}
-use Rattle.truth.proofs.AnswerLaws.{answers_eq}
+use Rattle.truth.proofs.AnswerLaws.{answers_iff}
+use Rattle.end_pairs.proofs.TestLaws.{answers_both}
 use Rattle.end_pairs.proofs.tests.are_nans.Goals as goal
 
-pub returns-then-x-eq-QUIET_NAN : goal.returns-then-x-eq-QUIET_NAN
+pub returns : goal.returns
 unfolding infinity quiet_nan
-returns-then-x-eq-QUIET_NAN c = answers_eq _ _ (λ e. record { lower_is = c.if-x-eq-QUIET_NAN.true; upper_is = e }) (λ n p. n p.upper_is)
-
-pub returns-else-x-eq-QUIET_NAN : goal.returns-else-x-eq-QUIET_NAN
-unfolding infinity quiet_nan
-returns-else-x-eq-QUIET_NAN c = answers_eq _ _ (λ e. absurd (c.if-x-eq-QUIET_NAN.false e)) (λ n p. n p.lower_is)
+returns c =
+    rw c.eq.ensures
+    (answers_iff (λ e. record { lower_is = e.0; upper_is = e.1 }) (λ p. (p.lower_is, p.upper_is)) (answers_both c.args.x.a c.args.x.b _ _))

@@ -1,13 +1,12 @@
--- `tests::is_empty_pair` meets its contract: each end is tested.
+-- `tests::is_empty_pair` meets its contract: both ends are compared.
 use Rattle.patterns.specs.Format.{infinity, sign_bit}
 use Rattle.meaning.specs.Pairs.{minus_infinity}
-use Rattle.truth.proofs.AnswerLaws.{answers_eq}
+use Rattle.truth.proofs.AnswerLaws.{answers_iff}
+use Rattle.end_pairs.proofs.TestLaws.{answers_both}
 use Rattle.end_pairs.proofs.tests.is_empty_pair.Goals as goal
 
-pub returns-then-x-eq-INFINITY : goal.returns-then-x-eq-INFINITY
+pub returns : goal.returns
 unfolding infinity sign_bit minus_infinity
-returns-then-x-eq-INFINITY c = answers_eq _ _ (λ e. record { lower_is = c.if-x-eq-INFINITY.true; upper_is = e }) (λ n p. n p.upper_is)
-
-pub returns-else-x-eq-INFINITY : goal.returns-else-x-eq-INFINITY
-unfolding infinity
-returns-else-x-eq-INFINITY c = answers_eq _ _ (λ e. absurd (c.if-x-eq-INFINITY.false e)) (λ n p. n p.lower_is)
+returns c =
+    rw c.eq.ensures
+    (answers_iff (λ e. record { lower_is = e.0; upper_is = e.1 }) (λ p. (p.lower_is, p.upper_is)) (answers_both c.args.x.a c.args.x.b _ _))

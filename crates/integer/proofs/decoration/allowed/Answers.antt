@@ -12,9 +12,6 @@ returns-then-is_empty_pair c =
     let a = c.args in
     allows a.f _ _ (of_empty (set_empty binary64 _ (said_yes c.is_empty_pair.ensures c.if-is_empty_pair.true)))
 
-pub is_point-requires : goal.is_point-requires
-is_point-requires c = c.requires.1.canonical.bare
-
 pub returns-then-not-is_point : goal.returns-then-not-is_point
 returns-then-not-is_point c =
     let a = c.args in

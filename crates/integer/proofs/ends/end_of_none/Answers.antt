@@ -1,38 +1,27 @@
 -- `ends::end_of_none` meets its contract: a function that keeps whole numbers has no end, and a sign is at most 1.
-use mathlib.Core.Path.{◌≡◌, subst⁻¹}
-use Prim.Native.Nat.{ℕ}
+use mathlib.Core.Path.{◌≡◌}
+use mathlib.Core.Logic.{◌⊎◌, inl, inr}
 use native.Mathlib.Omega.{arith}
 use Rattle.patterns.specs.Format.{binary64, infinity}
-use Rattle.points.specs.Functions.{keeps_ceil, keeps_floor, keeps_round, keeps_even, keeps_trunc}
+use Rattle.points.specs.Functions.{Keeps, keeps_ceil, keeps_floor, keeps_round, keeps_even, keeps_trunc}
 use Rattle.wholes.specs.Made.{operation}
 use Rattle.wholes.specs.declared.functions.Function.{Function}
-use Rattle.integer.specs.Rising.{UpperMade}
 use Rattle.integer.proofs.RisingLaws.{made_none, made_sign}
 use Rattle.integer.proofs.ends.end_of_none.Goals as goal
 
-by_name : {f g : Function} {b r : ℕ} → f ≡ g → UpperMade binary64 (operation g) b r → UpperMade binary64 (operation f) b r
-by_name {b = b} {r} e = subst⁻¹ (λ (f : Function). UpperMade binary64 (operation f) b r) e
-
-pub returns-in-Ceil : goal.returns-in-Ceil
-unfolding infinity
-returns-in-Ceil c = by_name c.in-Ceil.is (made_none binary64 keeps_ceil)
-
-pub returns-in-Floor : goal.returns-in-Floor
-unfolding infinity
-returns-in-Floor c = by_name c.in-Floor.is (made_none binary64 keeps_floor)
-
-pub returns-in-Round : goal.returns-in-Round
-unfolding infinity
-returns-in-Round c = by_name c.in-Round.is (made_none binary64 keeps_round)
-
-pub returns-in-RoundTiesEven : goal.returns-in-RoundTiesEven
-unfolding infinity
-returns-in-RoundTiesEven c = by_name c.in-RoundTiesEven.is (made_none binary64 keeps_even)
+keeps : {f : Function}
+    → (f ≡ Function.Ceil) ⊎ ((f ≡ Function.Floor) ⊎ ((f ≡ Function.Round) ⊎ ((f ≡ Function.RoundTiesEven) ⊎ (f ≡ Function.Trunc))))
+    → Keeps (operation f)
+keeps (inl e) = rw e keeps_ceil
+keeps (inr (inl e)) = rw e keeps_floor
+keeps (inr (inr (inl e))) = rw e keeps_round
+keeps (inr (inr (inr (inl e)))) = rw e keeps_even
+keeps (inr (inr (inr (inr e)))) = rw e keeps_trunc
 
 pub returns-in-Sign : goal.returns-in-Sign
 unfolding infinity
-returns-in-Sign c = by_name c.in-Sign.is (made_sign binary64 (omega arith))
+returns-in-Sign c = rw c.in-Sign.is (made_sign binary64 (omega arith))
 
-pub returns-in-Trunc : goal.returns-in-Trunc
+pub returns-in-Ceil : goal.returns-in-Ceil
 unfolding infinity
-returns-in-Trunc c = by_name c.in-Trunc.is (made_none binary64 keeps_trunc)
+returns-in-Ceil c = made_none binary64 (keeps c.in-Ceil.is)

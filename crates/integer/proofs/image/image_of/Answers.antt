@@ -19,10 +19,6 @@ upper_end-requires c =
     let h = not_empty_lem binary64 c.requires (said_no c.is_empty_pair.ensures c.if-is_empty_pair.false) in
     subst⁻¹ (Upper binary64) c.opposite.ensures (mirror_proper binary64 _ h).upper_end
 
-pub upper_end-requires-2 : goal.upper_end-requires-2
-upper_end-requires-2 c =
-    (not_empty_lem binary64 c.requires (said_no c.is_empty_pair.ensures c.if-is_empty_pair.false)).upper_end
-
 pub returns : goal.returns
 returns c =
     let h = not_empty_lem binary64 c.requires (said_no c.is_empty_pair.ensures c.if-is_empty_pair.false) in

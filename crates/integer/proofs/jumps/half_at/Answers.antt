@@ -4,9 +4,6 @@ use Rattle.truth.proofs.AnswerLaws.{said_yes, no_so}
 use Rattle.integer.proofs.JumpLaws.{answers_half, half_finite}
 use Rattle.integer.proofs.jumps.half_at.Goals as goal
 
-pub has_half-requires : goal.has_half-requires
-has_half-requires c = said_yes c.is_finite.ensures c.if-is_finite.true
-
 pub returns-then-is_finite : goal.returns-then-is_finite
 returns-then-is_finite c = answers_half binary64 (said_yes c.is_finite.ensures c.if-is_finite.true) c.has_half.ensures
 

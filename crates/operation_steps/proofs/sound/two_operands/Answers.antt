@@ -6,17 +6,20 @@ use Rattle.truth.proofs.AnswerLaws.{said_yes, said_no}
 use Rattle.operation_steps.specs.Sorted.{sorted_nai, sorted_intervals}
 use Rattle.operation_steps.proofs.SortedLaws.{sound_bare, sound_not_ill, lower_not_ill}
 use Rattle.operation_steps.proofs.sound.two_operands.Goals as goal
+use Rattle.operation_steps.proofs.sound.two_operands.Goals.{then-are_nans-via-then-are_nans, then-are_nans-via-else-are_nans+then-are_nans-2}
 
 pub returns-then-are_nans : goal.returns-then-are_nans
-returns-then-are_nans c = sorted_nai (inl (said_yes c.are_nans.ensures c.if-are_nans.true))
-
-pub returns-then-are_nans-2 : goal.returns-then-are_nans-2
-returns-then-are_nans-2 c = sorted_nai (inr (said_yes c.are_nans-2.ensures c.if-are_nans-2.true))
+returns-then-are_nans c =
+    sorted_nai
+    (elim c.then-are_nans.branch [
+      | then-are_nans-via-then-are_nans w ↦ inl (said_yes c.are_nans.ensures w.if-are_nans.true)
+      | then-are_nans-via-else-are_nans+then-are_nans-2 w ↦ inr (said_yes w.are_nans-else-are_nans.ensures w.if-are_nans-2.true)
+    ])
 
 pub returns : goal.returns
 returns c =
     let m = said_no c.are_nans.ensures c.if-are_nans.false in
-    let n = said_no c.are_nans-2.ensures c.if-are_nans-2.false in
+    let n = said_no c.are_nans-else-are_nans.ensures c.if-are_nans-2.false in
     sorted_intervals
     (record {
       not_nai = ⊎_elim m n;

@@ -3,20 +3,14 @@ use Rattle.patterns.specs.Format.{binary64, infinity, quiet_nan}
 use Rattle.operation_steps.proofs.SortedLaws.{intervals, right_nai_lem, right_interval_lem}
 use Rattle.operations.proofs.decorated.combine_dec.Goals as goal
 
-pub combine-requires : goal.combine-requires
-combine-requires c = (intervals c.two_operands.ensures c.in-Intervals.is).bares
-
 pub allowed_two-requires : goal.allowed_two-requires
-allowed_two-requires c = (intervals c.two_operands.ensures c.in-Intervals.is).bares.1
+allowed_two-requires c = (intervals c.two_operands.ensures c.in-Some.is).bares.1
 
-pub decorate-requires : goal.decorate-requires
-decorate-requires c = c.combine.ensures.canonical.bare
-
-pub returns-in-Nai : goal.returns-in-Nai
+pub returns-in-None : goal.returns-in-None
 unfolding infinity quiet_nan
-returns-in-Nai c = right_nai_lem c.two_operands.ensures binary64 c.in-Nai.is
+returns-in-None c = right_nai_lem c.two_operands.ensures binary64 c.in-None.is
 
-pub returns-in-Intervals : goal.returns-in-Intervals
-returns-in-Intervals c =
-    right_interval_lem c.two_operands.ensures c.in-Intervals.is
+pub returns-in-Some : goal.returns-in-Some
+returns-in-Some c =
+    right_interval_lem c.two_operands.ensures c.in-Some.is
     c.combine.ensures (c.allowed_two.ensures _) c.decorate.ensures

@@ -3,21 +3,15 @@ use Rattle.patterns.specs.Format.{binary64, infinity, quiet_nan}
 use Rattle.operation_steps.proofs.SortedLaws.{intervals, right_nai_lem, right_interval_lem}
 use Rattle.operations.proofs.decorated.image_dec.Goals as goal
 
-pub image-z-requires : goal.image-z-requires
-image-z-requires c = (intervals c.one_operand.ensures c.in-Intervals.is).bares
-
 pub allowed_one-requires : goal.allowed_one-requires
 allowed_one-requires c =
-    ((intervals c.one_operand.ensures c.in-Intervals.is).bares, c.image-z.ensures)
+    ((intervals c.one_operand.ensures c.in-Some.is).bares, c.image-z.ensures)
 
-pub decorate-requires : goal.decorate-requires
-decorate-requires c = c.image-z.ensures.canonical.bare
-
-pub returns-in-Nai : goal.returns-in-Nai
+pub returns-in-None : goal.returns-in-None
 unfolding infinity quiet_nan
-returns-in-Nai c = right_nai_lem c.one_operand.ensures binary64 c.in-Nai.is
+returns-in-None c = right_nai_lem c.one_operand.ensures binary64 c.in-None.is
 
-pub returns-in-Intervals : goal.returns-in-Intervals
-returns-in-Intervals c =
-    right_interval_lem c.one_operand.ensures c.in-Intervals.is
+pub returns-in-Some : goal.returns-in-Some
+returns-in-Some c =
+    right_interval_lem c.one_operand.ensures c.in-Some.is
     c.image-z.ensures c.allowed_one.ensures c.decorate.ensures

@@ -1,12 +1,8 @@
--- What holds at each turn: the cases before k are counted.
-use Prim.Native.Nat.{◌-◌, ◌*◌, ◌/◌, ◌≤◌}
-use lib.ListN.{length}
+-- What holds at each turn: the cases before this one are counted.
+use Rattle.std.proofs.Common.{◌*◌}
 use Rattle.rounding_runs.specs.Cases.{Counted, RightCase, WrongCase}
 use Rattle.rounding_runs.proofs.cases.count.Given as goal
 
-abbrev pub invariant-loop-k : goal.invariant-loop-k
-invariant-loop-k l =
-    (l.k ≤ length l.s / 25) × Counted (λ j. RightCase l.s l.o (j * 25)) l.k l.right × Counted (λ j. WrongCase l.s l.o (j * 25)) l.k l.wrong
-
-abbrev pub decreases-loop-k : goal.decreases-loop-k
-decreases-loop-k l = length l.s / 25 - l.k
+abbrev pub invariant-loop-case : goal.invariant-loop-case
+invariant-loop-case l =
+    Counted (λ k. RightCase l.fn.s l.o (k * 25)) l.case-index l.right × Counted (λ k. WrongCase l.fn.s l.o (k * 25)) l.case-index l.wrong

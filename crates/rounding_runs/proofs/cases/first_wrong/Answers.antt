@@ -1,24 +1,15 @@
--- `rounding_runs::cases::first_wrong` meets its contract.
-use borrow.Author.Count.{below_more, below_none}
-use native.Mathlib.Omega.{arith}
-use Rattle.truth.proofs.AnswerLaws.{said_yes, said_no}
+-- `rounding_runs::cases::first_wrong` meets its contract: the place is that of the first of the cases by themselves that is not right.
+use borrow.Author.Rules.{rules}
+use Rattle.std.proofs.lemmas.Iterator.{IsFirst-from_position, YieldsList-from_slice}
+use Rattle.rounding_runs.proofs.FirstLaws.{IsRight, IsWrong, first_found, turned_true, turned_false}
 use Rattle.rounding_runs.proofs.cases.first_wrong.Goals as goal
-
-pub loop-k-init : goal.loop-k-init
-loop-k-init c = (omega arith, below_none _)
-
-pub returns-then-not-is_right : goal.returns-then-not-is_right
-returns-then-not-is_right c =
-    let (within, before) = c.loop-k.invariant in
-    record { within = within; before = before; here = λ case. said_no c.is_right.ensures c.if-not-is_right.true }
-
-pub loop-k-preserved : goal.loop-k-preserved
-loop-k-preserved c = (
-  omega arith,
-  below_more _ _ c.loop-k.invariant.1 (said_yes c.is_right.ensures c.if-not-is_right.false),
-)
 
 pub returns : goal.returns
 returns c =
-    let (within, before) = c.loop-k.invariant in
-    record { within = within; before = before; here = λ case. absurd (omega arith) }
+    let s = c.args.s.now in
+    let cases = c.as_chunks.result.0.now in
+    let found =
+    IsFirst-from_position _ _ c.position.result IsWrong IsRight c.position.ensures.ran (YieldsList-from_slice cases cc)
+    (λ x q k. turned_true (search rules))
+    (λ x q k. (search rules, turned_false (search rules))) in
+    rw c.unwrap_or.ensures (first_found s cases c.as_chunks.ensures.front c.position.result c.as_chunks.ensures.front_len found)

@@ -3,8 +3,7 @@ use mathlib.Core.Path.{subst}
 use Rattle.patterns.specs.Format.{binary64}
 use Rattle.patterns.specs.Rounding.{Up}
 use Rattle.patterns.proofs.UpLaws.{up_unique}
-use Rattle.truth.specs.Answers.{denied}
-use Rattle.truth.proofs.AnswerLaws.{answers_eq, said_yes, said_no}
+use Rattle.truth.proofs.AnswerLaws.{answers_eq, said_yes, no_so}
 use Rattle.rounding_runs.proofs.cases.right.Goals as goal
 
 pub rounded-requires : goal.rounded-requires
@@ -16,5 +15,5 @@ returns-then-takes c =
     answers_eq _ _ (λ same. record { takes = takes; rounded = subst (Up binary64 _) same c.rounded.ensures })
     (λ differ right. differ (up_unique binary64 c.rounded.ensures right.rounded))
 
-pub returns : goal.returns
-returns c = denied (λ right. said_no c.takes.ensures c.if-takes.false right.takes)
+pub returns-else-takes : goal.returns-else-takes
+returns-else-takes c = no_so (λ right. right.takes) c.takes.ensures c.if-takes.false

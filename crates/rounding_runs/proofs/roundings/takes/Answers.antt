@@ -1,16 +1,11 @@
 -- `rounding_runs::roundings::takes` meets its contract: it answers the questions of its parts in turn.
-use Rattle.truth.specs.Answers.{denied}
-use Rattle.truth.proofs.AnswerLaws.{answers_iff, said_yes, said_no}
+use Rattle.truth.proofs.AnswerLaws.{answers_iff, said_yes, no_so}
 use Rattle.rounding_runs.proofs.roundings.takes.Goals as goal
 
-pub returns-then-not-is_finite : goal.returns-then-not-is_finite
-returns-then-not-is_finite c = denied (λ takes. said_no c.is_finite.ensures c.if-not-is_finite.true takes.first)
+pub returns-then-are_finite : goal.returns-then-are_finite
+returns-then-are_finite c =
+    let finite = said_yes c.are_finite.ensures c.if-are_finite.true in
+    answers_iff (λ divisor. record { first = finite.0; second = finite.1; divisor = divisor }) (λ takes. takes.divisor) c.takes_second.ensures
 
-pub returns-then-not-is_finite-2 : goal.returns-then-not-is_finite-2
-returns-then-not-is_finite-2 c = denied (λ takes. said_no c.is_finite-2.ensures c.if-not-is_finite-2.true takes.second)
-
-pub returns : goal.returns
-returns c =
-    let first = said_yes c.is_finite.ensures c.if-not-is_finite.false in
-    let second = said_yes c.is_finite-2.ensures c.if-not-is_finite-2.false in
-    answers_iff (λ divisor. record { first = first; second = second; divisor = divisor }) (λ takes. takes.divisor) c.takes_second.ensures
+pub returns-else-are_finite : goal.returns-else-are_finite
+returns-else-are_finite c = no_so (λ takes. (takes.first, takes.second)) c.are_finite.ensures c.if-are_finite.false

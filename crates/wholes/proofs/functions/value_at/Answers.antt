@@ -14,9 +14,6 @@ pub value_at_magnitude-requires-2 : goal.value_at_magnitude-requires-2
 unfolding sign_bit
 value_at_magnitude-requires-2 c = negative_finite binary64 c.requires c.if-b-lt-SIGN.false
 
-pub negative-requires : goal.negative-requires
-negative-requires c = c.value_at_magnitude-2.ensures.finite
-
 pub returns : goal.returns
 unfolding sign_bit
 returns c =

@@ -1,13 +1,9 @@
 -- `magnitudes::downward` meets its contract: a whole number stays, and between two the lower is taken.
-use mathlib.Core.Path.{refl}
+use Rattle.std.proofs.Common.{rules}
 use Rattle.patterns.specs.Format.{binary64}
 use Rattle.points.specs.Functions.{keeps_floor}
-use Rattle.wholes.proofs.MagnitudeLaws.{part_whole, part_between, made_whole, floor_made}
+use Rattle.wholes.proofs.MagnitudeLaws.{made, floor_made}
 use Rattle.wholes.proofs.magnitudes.downward.Goals as goal
 
-pub returns-in-Whole : goal.returns-in-Whole
-returns-in-Whole c =
-    made_whole binary64 keeps_floor c.requires (part_whole c.in-Whole.ensures refl)
-
-pub returns-in-Between : goal.returns-in-Between
-returns-in-Between c = floor_made (part_between c.in-Between.ensures refl)
+pub returns : goal.returns
+returns c = made binary64 _ _ keeps_floor c.requires c.split.ensures c.map_or.ensures (λ x e p. floor_made e (search rules))

@@ -7,5 +7,5 @@ use Rattle.wholes.proofs.magnitudes.sign_of.Goals as goal
 pub returns-then-m-eq0 : goal.returns-then-m-eq0
 returns-then-m-eq0 c = sign_none binary64 c.requires c.if-m-eq0.true
 
-pub returns : goal.returns
-returns c = sign_some binary64 (omega arith) c.requires c.if-m-eq0.false
+pub returns-else-m-eq0 : goal.returns-else-m-eq0
+returns-else-m-eq0 c = sign_some binary64 (omega arith) c.requires c.if-m-eq0.false

@@ -1,9 +1,0 @@
--- `muenglavot_decorated_le_to_be` meets its contract: number and place are small enough to pack.
-use Rattle.patterns.specs.Format.{binary64}
-use Rattle.meaning.specs.Bytes.{big_endian, little_endian}
-use Rattle.meaning.specs.Forms.{decorated_form}
-use Rattle.request_laws.proofs.SmallLaws.{codec_small}
-use Rattle.host.proofs.muenglavot_decorated_le_to_be.Goals as goal
-
-pub packed-requires : goal.packed-requires
-packed-requires c = codec_small binary64 decorated_form little_endian big_endian c.decorated_le_to_be.ensures

@@ -1,2 +1,0 @@
--- What the contracts of interchange bytes cite.
-pub mod Written

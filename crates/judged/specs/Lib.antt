@@ -1,2 +1,0 @@
--- What the contracts of operations on any values cite.
-pub mod ExactAnswers

@@ -1,2 +1,0 @@
--- Laws of bytes at their places.
-pub mod StateByteLaws

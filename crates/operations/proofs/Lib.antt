@@ -1,2 +1,0 @@
--- Laws of operation names.
-pub mod NameLaws
