@@ -91,7 +91,7 @@ fn strict_less(x: EndPair, y: EndPair) -> bool
     passes(x, y) && passes_down(y, x)
 }
 
-// Whether two bare intervals compare, by their ends.
+// Whether two bare intervals compare, by their ends. Each name has its function in an arm: a table of pointers would lose their clauses.
 pub fn compares(c: Comparison, x: EndPair, y: EndPair) -> bool
     requires { Bare binary64 (pair_of x) × Bare binary64 (pair_of y) }
     ensures { Answers (Compares (comparison_of c) (set_of binary64 (pair_of x)) (set_of binary64 (pair_of y))) result }

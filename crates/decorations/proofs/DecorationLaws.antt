@@ -1,38 +1,11 @@
 -- Decorations: their order, and which one set_dec gives to a set.
-use mathlib.Core.Bool.{Bool}
-use mathlib.Core.Path.{◌≡◌, refl, sym, ◌∙◌, ap}
-use Prim.Native.Nat.{ℕ, ◌<◌, ◌≤◌}
-use borrow.Author.Tests.{le-leb, lt-leb}
-use lib.Dec.{eqb}
+use mathlib.Core.Path.{◌≡◌, refl, ap}
+use Prim.Native.Nat.{ℕ}
 use Rattle.std.specs.Prelude.{Err}
 use Rattle.refusals.specs.declared.Fault.{Fault}
 use Rattle.decorations.specs.DecorationBytes.{SaidBy, says_none}
 use Rattle.meaning.specs.Sets.{at, unbounded, Set, empty, span}
-use Rattle.meaning.specs.Decorations.{Decoration, Ill, Trv, Def, Dac, Com, decoration_byte, decoration_by, lower_of, settled, Common, common}
-
--- A decoration is known by its byte.
-by_byte : ℕ → Decoration
-by_byte b = decoration_by (eqb b 0) Ill (decoration_by (eqb b 4) Trv (decoration_by (eqb b 8) Def (decoration_by (eqb b 12) Dac Com)))
-
-byte_back : (d : Decoration) → by_byte (decoration_byte d) ≡ d
-unfolding by_byte
-byte_back Ill = refl
-byte_back Trv = refl
-byte_back Def = refl
-byte_back Dac = refl
-byte_back Com = refl
-
-pub byte_known : (d e : Decoration) → decoration_byte d ≡ decoration_byte e → d ≡ e
-byte_known d e q = sym (byte_back d) ∙ ap by_byte q ∙ byte_back e
-
-pub ill_byte : (d : Decoration) → decoration_byte d ≡ 0 → d ≡ Ill
-ill_byte d = byte_known d Ill
-
-pub lower_first : (d e : Decoration) → decoration_byte d ≤ decoration_byte e → lower_of d e ≡ d
-lower_first d e h = ap (λ (t : Bool). decoration_by t d e) (le-leb (decoration_byte d) (decoration_byte e) h)
-
-pub lower_second : (d e : Decoration) → decoration_byte e < decoration_byte d → lower_of d e ≡ e
-lower_second d e h = ap (λ (t : Bool). decoration_by t d e) (lt-leb (decoration_byte d) (decoration_byte e) h)
+use Rattle.meaning.specs.Decorations.{Decoration, Ill, Trv, Def, Dac, Com, decoration_byte, lower_of, settled, Common, common}
 
 -- The highest decoration of a set: Trv of EMPTY, Com of a bounded interval, Dac of any other.
 pub highest_empty : {Z : Set} → Z ≡ empty → settled Z Com ≡ Trv

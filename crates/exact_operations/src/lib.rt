@@ -39,6 +39,7 @@ pub fn negate_exact(x: Interval) -> ExactInterval
     }
 }
 
+// Each name has its function in an arm: a table of pointers would lose their clauses.
 fn exactness(o: Arithmetic, x: EndPair, y: EndPair) -> Exactness
     requires { Bare binary64 (two.pair_of x) × Bare binary64 (two.pair_of y) }
     ensures { ExactFor binary64 (Result₂ (arithmetic_of o) (set_of binary64 (two.pair_of x)) (set_of binary64 (two.pair_of y))) result }

@@ -27,6 +27,7 @@ fn half_at(b: u64) -> bool
 }
 
 // The test for each function, of the operand `x` and the result `z`: an end is left as it was, has fractional part one half, or is 0.
+// It is a table, whose arms are no functions.
 pub fn jumps(f: Function, x: EndPair, z: EndPair) -> bool
     requires { Proper binary64 (pair_of x) × Proper binary64 (pair_of z) }
     ensures { Answers (DacTest (operation f) (set_of binary64 (pair_of x)) (set_of binary64 (pair_of z))) result }

@@ -29,7 +29,7 @@ abbrev pub StateNumber : Format → (f : Form) → (x y : Value f) → ℕ → T
 StateNumber F bare_form x y n = OverlapNumber (set_of F x) (set_of F y) n
 StateNumber F decorated_form x y n = DecoratedOverlap F x y n
 
--- The statement of each operation of one and of two operands, of each comparison, and of overlap. Any values are judged first.
+-- The statement of each operation of one and of two operands, and of each comparison. Any values are judged first.
 abbrev pub Answer₁ : Format → (f : Form) → Unary → Value f → Outcome (Value f) → Type 0
 Answer₁ F f op x o = Answered₁ (JudgedValue F f) (Right₁ F f op) x o
 
@@ -38,6 +38,3 @@ Answer₂ F f op x y o = Answered₂ (JudgedValue F f) (Right₂ F f op) x y o
 
 abbrev pub Compared : Format → (f : Form) → Comparison → (x y : Value f) → Outcome Bool → Type 0
 Compared F f c x y o = Answered₂ (JudgedValue F f) (λ x y. Answers (FormsCompare F f c x y)) x y o
-
-abbrev pub Overlapped : Format → (f : Form) → (x y : Value f) → Outcome ℕ → Type 0
-Overlapped F f x y o = Answered₂ (JudgedValue F f) (StateNumber F f) x y o

@@ -2,14 +2,9 @@
 // truth value. They stand on intervals in lent bytes (`lent_intervals`) and on the operations over the form (`operands`).
 #![tactic(auto)]
 
-ghost use Rattle.std.specs.Prelude.{◌≡◌, ◌+◌, length};
 ghost use Rattle.patterns.specs.Format.{binary64};
-ghost use Rattle.meaning.specs.Forms.{size_of};
-ghost use Rattle.meaning.specs.Requests.{BareRequest, DecoratedRequest, Request, OutcomeIn};
-ghost use Rattle.meaning.specs.Calls.{Called};
+ghost use Rattle.meaning.specs.Requests.{BareRequest, DecoratedRequest, Request};
 ghost use Rattle.refusals.specs.RefusalMeaning.{said};
-ghost use Rattle.operation_names.specs.Numbers.{asked_of};
-ghost use Rattle.request_laws.specs.Reads.{OnOperands};
 
 mod operation;
 

@@ -15,7 +15,7 @@ fn takes_rows(o: Operation, a: &[u64], b: &[u64]) -> bool
     ensures { Answers (TakesRows o a.now b.now) result }
 {
     let mut all = true;
-    // Counted, and not over a zip, which LLVM does not vectorize: sums took 0.97 times plain Rust's time with it, in place of 0.82.
+    // Counted, and not over a zip, which LLVM does not vectorize: subnormal products took 1.28 times plain Rust's time with it, where 1.2 is the bar.
     for k in 0..a.len() {
         all &= takes(o, a[k], b[k]);
     }

@@ -63,7 +63,7 @@ pub fn takes(o: Operation, a: u64, b: u64) -> bool
     are_finite(a, b) && takes_second(o, b)
 }
 
-// The exact result rounded upward.
+// The exact result rounded upward. Each name has its function in an arm: a table of pointers would lose their clauses.
 pub fn rounded(o: Operation, a: u64, b: u64) -> u64
     requires { Takes o a b }
     ensures { Up binary64 (exact_of o a b) result }

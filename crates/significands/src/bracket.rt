@@ -5,7 +5,8 @@ ghost use Rattle.packing.specs.Packing.{TellsRepresentable};
 use crate::double::DOUBLE;
 use packing::bracket::Approx;
 
-// An exact value cut to significand * 2^exponent, no coarser than doubles are there, and whether nothing was cut off.
+// An exact value cut to significand * 2^exponent, no coarser than doubles are there, and whether nothing was cut off. The value
+// counts either way, so that no Option says this.
 #[derive(Clone, Copy)]
 pub struct DoubleBracket {
     pub significand: u64,

@@ -9,6 +9,7 @@ use refusals::Refusal;
 use value_records::replies::Answer;
 use value_records::values::Operand;
 
+// Each name has its function in an arm, as by value.
 fn two(o: Arithmetic, x: Interval, y: Interval) -> Result<ExactInterval, Refusal> {
     match o {
         Arithmetic::Add => add_exact(x, y),

@@ -30,7 +30,8 @@ fn whole<T: Operand>(f: Function, x: T) -> Result<T, Refusal> {
     }
 }
 
-// `by_name` says which of two public ways to the answer is tried, for one operand and for two: no closure has a type for either.
+// `by_name` says which of two public ways to the answer is tried. A closure for each way would be written out at each of four calls. Below,
+// each name has its function in an arm: a table of pointers would be longer.
 fn one<T: Operand>(f: Unary, by_name: bool, x: T) -> Result<T, Refusal> {
     if by_name {
         return judged::one(f, x);

@@ -13,7 +13,7 @@ pub fn read_full<R: Read>(input: &mut R, buffer: &mut [u8]) -> usize
     ensures bytes { Consumes (R.remaining input.old) (R.remaining input.new) (take result buffer.new) }
 {
     let mut done = 0;
-    // What is counted is bytes as they arrive, and no index.
+    // No `for`: what a read gives decides how far the next one starts.
     while done < buffer.len() {
         match input.read(&mut buffer[done..]) {
             Ok(0) | Err(_) => break,

@@ -33,6 +33,7 @@ pub fn mirrored(f: Function) -> Function
     }
 }
 
+// Each name has its function in an arm: a table of pointers would lose their clauses.
 fn value_at_magnitude(f: Function, m: u64) -> u64
     requires { m < infinity binary64 }
     ensures { MadeMagnitude binary64 (operation f) m result }

@@ -17,7 +17,8 @@ pub const ONE: u64 = 0x3ff0_0000_0000_0000;
 // The pattern of 1/2.
 const HALF: u64 = 0x3fe0_0000_0000_0000;
 
-// The whole numbers next to a magnitude, as patterns, how it compares with their middle, and whether the lower one is even.
+// The whole numbers next to a magnitude, as patterns, how it compares with their middle, and whether the lower one is even, which no
+// Option says better: both neighbours count either way.
 #[derive(Clone, Copy)]
 pub struct Neighbours {
     pub low: u64,
