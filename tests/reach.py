@@ -1,6 +1,6 @@
 """What the code of the crates reaches, by names: the functions that a function calls, and the constants and enums that it uses.
 
-A method is reached by its name alone, whichever type or trait has it, and so a trait's method reaches those of its impls; `?` reaches each `from`. A path to a function reaches it, also where it is passed. The methods of a public trait are public functions of it; those of its
+A method is reached by its name alone, whichever type or trait has it, and so a trait's method reaches those of its impls, as a trait's constant of a type parameter does; `?` reaches each `from`, an operator each method of its trait, and `u8::from` each impl for `u8`. A path to a function reaches it, also where it is passed. The methods of a public trait are public functions of it; those of its
 impls stand below their types.
 """
 
@@ -12,6 +12,8 @@ CRATES = Path(__file__).resolve().parent.parent / 'crates'
 ITEM = re.compile(r'( *)(pub )?(?:extern "C" )?(fn|const|enum) (\w+)')
 OWNER = re.compile(r'(?:impl(?:<.*?>)? (?:.* for )?|(pub )?trait )(\w+)')
 TURBOFISH = re.compile(r'::<[^<>]*>')
+PRIMITIVE = re.compile(r'[iu](?:8|16|32|64|128|size)|bool|char')
+OPERATORS = {'+': 'add', '-': 'sub', '*': 'mul', '/': 'div', '%': 'rem'}
 PARAMETER = re.compile(r'(?:[A-Z]|Self)::(\w+)')
 CONTRACT = re.compile(r' *(requires|ensures)\b')
 USE = re.compile(r'(?:pub )?use ([\w:]+?)(?:::\{([\w, ]*)\})?;')
@@ -85,6 +87,8 @@ ITEMS = [item for file in FILES.values() for item in file.items]
 def named(file, name):
     """The items that a name stands for in a file, or the enum of a variant."""
     head, *rest = name.split('::')
+    if rest and PRIMITIVE.fullmatch(head):
+        return [item for item in ITEMS if item.ends_with((head, *rest))]
     crate, *path = file.uses.get(head, [head]) + rest
     if not path:
         return [item for item in file.items if item.path == (file.module, crate)]
@@ -100,16 +104,17 @@ def used(item):
     text = TURBOFISH.sub('', ' '.join(file.lines[at] for at in item.lines))
     if item.public and len(item.path) == 3:
         yield from (other for other in ITEMS if other.path[-1] == item.path[-1] and len(other.path) == 3 and not other.public)
-    if '?' in text:
-        yield from (other for other in ITEMS if other.path[-1] == 'from' and len(other.path) == 3)
+    behind = {'from'} if '?' in text else set()
+    behind |= {OPERATORS[sign] for sign in re.findall(r' ([-+*/%]) ', text)}
+    yield from (other for other in ITEMS if other.path[-1] in behind and len(other.path) == 3)
     for dot, name, call in NAME.findall(text):
         parameter = PARAMETER.fullmatch(name)
         if dot or parameter:
             name = parameter[1] if parameter else name
-            found = [other for other in ITEMS if call and len(other.path) == 3 and other.path[-1] == name]
+            found = [other for other in ITEMS if (call or parameter) and len(other.path) == 3 and other.path[-1] == name]
         else:
             found = named(file, name)
-        yield from (other for other in found if call or other.kind != 'fn' or '::' in name)
+        yield from (other for other in found if call or parameter or other.kind != 'fn' or '::' in name)
 
 
 def reached(items):

@@ -1,7 +1,7 @@
 // How a turn of a run closes.
-ghost use Rattle.std.specs.Prelude.{◌≤◌};
+ghost use Rattle.std.specs.Prelude.{◌≡◌, ◌≤◌};
 ghost use Rattle.bench_run.specs.Limit.{most};
-ghost use Rattle.bench_run.specs.Turn.{Closes};
+ghost use Rattle.bench_run.specs.Turn.{Closes, leftover_number};
 
 use crate::limit::MOST;
 
@@ -12,6 +12,15 @@ pub enum Leftover {
     Piece = 1,
     // Bytes after the last request that a run answers.
     Excess = 7,
+}
+
+impl Leftover {
+    // Document 01's number.
+    pub fn number(self) -> u8
+        ensures { result ≡ leftover_number self }
+    {
+        self as u8
+    }
 }
 
 #[derive(Clone, Copy)]

@@ -44,7 +44,7 @@ fn close(arrived: usize, run: Run, written: usize, output: &mut [u8]) -> TurnEnd
             run: ControlFlow::Break(run),
         },
         Ending::Last(leftover) => {
-            output[written..written + REPLY].copy_from_slice(&last_reply(leftover));
+            output[written..written + REPLY].copy_from_slice(&last_reply(leftover.number()));
             TurnEnd {
                 written: written + REPLY,
                 run: ControlFlow::Break(run),

@@ -6,7 +6,7 @@ mod number;
 mod state;
 
 use lent_intervals::{BARE, DECORATED};
-pub use number::{number_and_place, packed};
+pub use number::{number_and_place, packed, packed_numbers};
 pub use state::write_state;
 
 // Where the number stands, of the operation in a request and of the refusal in a reply.

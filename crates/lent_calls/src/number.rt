@@ -17,10 +17,17 @@ pub fn number_and_place(answer: Result<(), Refusal>) -> (u8, u8)
     }
 }
 
-// The number plus 256 times the place, for hosts in C.
+// A number plus 256 times a place.
+pub fn packed_numbers(number: u8, place: u8) -> u32
+    ensures { result ≡ number + 256 * place }
+{
+    u32::from(number) + PLACE * u32::from(place)
+}
+
+// The number plus 256 times the place of what a call says, for hosts in C.
 pub fn packed(answer: Result<(), Refusal>) -> u32
     ensures { result ≡ (said answer).number + 256 * (said answer).place }
 {
     let (number, place) = number_and_place(answer);
-    u32::from(number) + PLACE * u32::from(place)
+    packed_numbers(number, place)
 }

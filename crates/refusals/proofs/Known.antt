@@ -3,7 +3,7 @@ use mathlib.Core.Path.{◌≡◌, refl, sym, ◌∙◌, ap}
 use Rattle.std.specs.Prelude.{ℕ, ◌==◌, if◌then◌else◌, Result, Ok, Err}
 use Rattle.meaning.specs.Refusals as meant
 use Rattle.meaning.specs.Statement.{Outcome, refused, given}
-use Rattle.refusals.specs.RefusalMeaning.{refusal_of, outcome, outcome_of}
+use Rattle.refusals.specs.RefusalMeaning.{refusal_of, outcome, outcome_of, said}
 use Rattle.refusals.specs.declared.Fault.{Fault}
 use Rattle.refusals.specs.declared.Place.{Place}
 use Rattle.refusals.specs.declared.Refusal.{Refusal}
@@ -50,3 +50,23 @@ module _ {A B : Type 0} {meaning : A → B} (value_of : B → A) (back : (x : A)
 -- Two results whose values are document 01's own.
 pub same_known : {A : Type 0} {r s : Result A Refusal} → outcome r ≡ outcome s → r ≡ s
 same_known {A} = result_known (λ (x : A). x) (λ x. refl)
+
+said_by : meant.Refusal → Result (Unit {0}) Refusal
+said_by r = if r.number == 0 then Ok tt else Err (code_of r)
+
+said_back : (r : Result (Unit {0}) Refusal) → said_by (said r) ≡ r
+unfolding said_by code_of operand_of fault_of
+said_back (Ok u) = refl
+said_back (Err Refusal.WrongLength) = refl
+said_back (Err Refusal.WrongRoom) = refl
+said_back (Err Refusal.UnknownOperation) = refl
+said_back (Err (Refusal.Operand Place.First Fault.BadByte)) = refl
+said_back (Err (Refusal.Operand Place.First Fault.BadEnds)) = refl
+said_back (Err (Refusal.Operand Place.First Fault.BadDecoration)) = refl
+said_back (Err (Refusal.Operand Place.Second Fault.BadByte)) = refl
+said_back (Err (Refusal.Operand Place.Second Fault.BadEnds)) = refl
+said_back (Err (Refusal.Operand Place.Second Fault.BadDecoration)) = refl
+
+-- Two results of a call on lent output that say the same are equal.
+pub said_known : {r s : Result (Unit {0}) Refusal} → said r ≡ said s → r ≡ s
+said_known = injective said_by said_back

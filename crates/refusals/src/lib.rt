@@ -7,6 +7,9 @@ ghost use Rattle.refusals.specs.RefusalMeaning.{refusal_of};
 ghost use Rattle.refusals.specs.declared.Place.{Place};
 ghost use Rattle.refusals.specs.declared.Refusal.{Refusal};
 
+// Where nothing has an index.
+const NO_INDEX: u32 = 0;
+
 // What is wrong with an operand, in the order in which it is tried.
 #[derive(Clone, Copy, PartialEq, Eq)]
 pub enum Fault {
@@ -79,5 +82,12 @@ impl Refusal {
             Refusal::Operand(Place::First, _) => 1,
             Refusal::Operand(Place::Second, _) => 2,
         }
+    }
+
+    // The index, which is 0, since nothing that can be passed has one.
+    pub fn index(self) -> u32
+        ensures { result ≡ (refusal_of self).index }
+    {
+        NO_INDEX
     }
 }

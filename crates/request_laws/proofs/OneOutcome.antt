@@ -1,7 +1,8 @@
 -- Two outcomes that satisfy the statement of a request or a codec are equal: the refusal and the whole output.
-use mathlib.Core.Path.{◌≡◌}
+use mathlib.Core.Path.{◌≡◌, ap}
 use mathlib.Core.List.{List}
 use Prim.Native.Nat.{ℕ}
+use Rattle.std.specs.Prelude.{Result}
 use Rattle.patterns.specs.Format.{Format}
 use Rattle.meaning.specs.Bytes.{ByteOrder}
 use Rattle.meaning.specs.Forms.{Form}
@@ -11,6 +12,9 @@ use Rattle.meaning.proofs.Unique.{one_answer₁, written_once}
 use Rattle.uniqueness.proofs.VerdictLaws.{judged_in_once}
 use Rattle.uniqueness.proofs.ReadingLaws.{reads_once}
 use Rattle.meaning.specs.Calls.{Left}
+use Rattle.refusals.specs.RefusalMeaning.{said}
+use Rattle.refusals.specs.declared.Refusal.{Refusal}
+use Rattle.refusals.proofs.Known.{said_known}
 use Rattle.request_laws.specs.Calls.{Statement, Leaves}
 use Rattle.meaning.proofs.CalledLaws.{called_once}
 use Rattle.request_laws.proofs.OutcomeLaws.{bare_outcome_once, exact_outcome_once, decorated_outcome_once, requested_once}
@@ -18,6 +22,17 @@ use Rattle.request_laws.proofs.OutcomeLaws.{bare_outcome_once, exact_outcome_onc
 -- A statement of what a call leaves, for any input and any lent output, allows one thing.
 abbrev pub OneLeft : Statement → Type 0
 OneLeft S = (input before : List ℕ) (l m : Left) → Leaves S input before l → Leaves S input before m → l ≡ m
+
+-- It allows one result of the code, and one output after it.
+abbrev pub OneResult : Statement → Type 0
+OneResult S = (input before : List ℕ) (r s : Result (Unit {0}) Refusal) (after after' : List ℕ)
+    → S input before (said r) after → S input before (said s) after' → (r ≡ s) × (after ≡ after')
+
+-- So it is of each statement below, as the contracts of the calls have them.
+pub one_result : (S : Statement) → OneLeft S → OneResult S
+one_result S once input before r s after after' h k =
+    let same : record { refusal = said r; after = after } ≡ record { refusal = said s; after = after' } = once input before (record { refusal = said r; after = after }) (record { refusal = said s; after = after' }) h k in
+    (said_known (ap (λ (l : Left). l.refusal) same), ap (λ (l : Left). l.after) same)
 
 module _ (F : Format) where
   pub bare_request_once : OneLeft (BareRequest F)

@@ -32,16 +32,20 @@ impl Found {
         first_wrong: None,
     };
 
-    // With the cases of the next bytes. A last piece that is no whole case is found wrong.
-    fn and(self, bytes: &[u8]) -> Found {
+    // The number of the first case in the next bytes that is not right. A last piece that is no whole case is found wrong.
+    fn wrong_in(self, bytes: &[u8]) -> Option<usize> {
         let right = first_wrong(bytes);
-        let wrong = (right * CASE < bytes.len()).then_some(self.cases.wrapping_add(right));
+        (right * CASE < bytes.len()).then_some(self.cases.wrapping_add(right))
+    }
+
+    // With the cases of the next bytes. Once a case is found wrong, no later one is looked for.
+    fn and(self, bytes: &[u8]) -> Found {
         Found {
             sums: self.sums + count(bytes, Operation::Sum),
             products: self.products + count(bytes, Operation::Product),
             quotients: self.quotients + count(bytes, Operation::Quotient),
             cases: self.cases.wrapping_add(bytes.len() / CASE),
-            first_wrong: self.first_wrong.or(wrong),
+            first_wrong: self.first_wrong.or_else(|| self.wrong_in(bytes)),
         }
     }
 }

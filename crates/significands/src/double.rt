@@ -4,7 +4,7 @@ use packing::format::Format;
 pub use patterns::{FRACTION, SIGN};
 
 // The exponent field of infinity.
-const CODES: u32 = 2047;
+pub const CODES: u32 = 2047;
 
 // The format of doubles.
 pub const DOUBLE: Format = Format {

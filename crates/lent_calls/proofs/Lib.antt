@@ -1,0 +1,2 @@
+-- Laws of bytes at their places.
+pub mod StateByteLaws
